@@ -1,0 +1,3 @@
+-- Laws on lists and numbers that several crates cite.
+pub mod Parts
+pub mod Numbers

@@ -1,0 +1,47 @@
+-- Laws on joined lists and their parts, each by recursion on a list or by the kit's laws of take and drop.
+-- Assumes nothing.
+use mathlib.Core.Path.{_≡_, refl, sym, ap, _∙_}
+use mathlib.Core.List.{List, [], _∷_, _++_}
+use Prim.Native.Nat.{ℕ, zero, suc, _+_, _-_, _*_, _≤_, _<_}
+use native.Mathlib.Nat.{suc-ne-zero, suc-mul, add-comm, mul-le-mul-right}
+use native.Mathlib.Omega.{arith}
+use lib.ListN.{length, take, drop, length-drop}
+use lib.Seq.{take-at, drop-at, take-take, length-take-le, drop-drop}
+
+module _ {A : Type 0} where
+  -- A list of no elements is empty.
+  pub nil-of-length : (x : List A) → length x ≡ 0 → x ≡ []
+  nil-of-length [] e = refl
+  nil-of-length (a ∷ x) e = absurd (suc-ne-zero _ e)
+
+  -- Where two joined lists are equal and their fronts have one length, the fronts are equal and so are the rests.
+  pub append-inj : {n : ℕ} {a b c d : List A} → length a ≡ n → length c ≡ n → a ++ b ≡ c ++ d → (a ≡ c) × (b ≡ d)
+  append-inj {n} {a} {b} {c} {d} la lc e = (
+    sym (take-at a b n la) ∙ ap (take n) e ∙ take-at c d n lc,
+    sym (drop-at a b n la) ∙ ap (drop n) e ∙ drop-at c d n lc,
+  )
+
+  -- A part of a front is that part of the whole.
+  pub take-drop-take : (n j K : ℕ) (l : List A) → j + n ≤ K → take n (drop j (take K l)) ≡ take n (drop j l)
+  take-drop-take n zero K l h = take-take n K l (omega arith)
+  take-drop-take n (suc j) zero l h = absurd (omega arith)
+  take-drop-take n (suc j) (suc K) [] h = refl
+  take-drop-take n (suc j) (suc K) (x ∷ l) h = take-drop-take n j K l (omega arith)
+
+  -- A part that lies within a list has the length asked for.
+  pub length-part : (n j : ℕ) (l : List A) → j + n ≤ length l → length (take n (drop j l)) ≡ n
+  length-part n j l h = length-take-le n (drop j l) (simp length-drop (omega arith))
+
+  -- What stands m places after the first n.
+  pub drop-to : (n m k : ℕ) (l : List A) → k ≡ n + m → drop m (drop n l) ≡ drop k l
+  drop-to n m k l e = drop-drop m n l ∙ ap (λ (x : ℕ). drop x l) (sym e)
+
+  -- Beyond a front of n elements, piece j + 1 of n elements is piece j of the rest.
+  pub piece-suc : (n j : ℕ) (a b : List A) → length a ≡ n → drop (suc j * n) (a ++ b) ≡ drop (j * n) b
+  piece-suc n j a b e =
+      ap (λ (x : ℕ). drop x (a ++ b)) (suc-mul j n ∙ add-comm (j * n) n)
+      ∙ sym (drop-drop (j * n) n (a ++ b)) ∙ ap (drop (j * n)) (drop-at a b n e)
+
+-- Piece j of n elements ends within d pieces.
+pub piece-room : (j d n : ℕ) → j < d → j * n + n ≤ d * n
+piece-room j d n h = omega (arith, mul-le-mul-right n h, suc-mul j n)

@@ -1,0 +1,17 @@
+pub mod DigitLaws
+pub mod ChecksumLaws
+pub mod FindingLaws
+pub mod ChainLaws
+pub mod TreeLaws
+pub mod LayerLaws
+pub mod ForestLaws
+pub mod DigestLaws
+pub mod KeyLaws
+pub mod SealLaws
+pub mod CheckLaws
+pub mod Accepts
+pub mod OneOfThree
+pub mod Starred
+pub mod SetLaws
+pub mod CountLaws
+pub mod CostLaws

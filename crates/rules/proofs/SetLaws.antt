@@ -1,0 +1,67 @@
+-- Every row of the table is legal: one test, worked out over the whole table, and one law that turns it into `Legal`.
+-- Assumes nothing.
+use mathlib.Core.Path.{_≡_, refl, sym, ap, _∙_, subst}
+use mathlib.Core.Bool.{Bool, true, false, _&&_, cond}
+use mathlib.Core.List.{List, [], _∷_, List·Memᴰ}
+use mathlib.Core.Option.{Option, some, none}
+use Prim.Native.Nat.{ℕ, _+_, _-_, _*_, _/_, _^_}
+use native.Mathlib.Omega.{arith}
+use lib.Dec.{T, ltb, eqb, ltb→lt, eqb→eq}
+use Rattle.rules.specs.Chains.{chains}
+use Rattle.rules.specs.Digest.{Row, Legal, bytesFor}
+use Rattle.rules.specs.Sets.{rows, good, every, find, rowOf, bounds}
+
+first : (a b : Bool) → T (a && b) → T a
+first true b t = tt
+first false b t = t
+
+second : (a b : Bool) → T (a && b) → T b
+second true b t = t
+second false b t = absurd t
+
+pub legal : (r : Row) → T (good r) → Legal r
+unfolding good
+legal r t =
+    let t1 = second (eqb (r .h) (r .d * r .h')) _ t in
+    let t2 = second (ltb 0 (r .d)) _ t1 in
+    let t3 = second (eqb (r .m) (bytesFor (r .k * r .a) + (bytesFor (r .h - r .h') + bytesFor (r .h')))) _ t2 in
+    let t4 = second (eqb (r .publicBytes) (2 * r .n)) _ t3 in
+    let t5 = second (eqb (r .secretBytes) (4 * r .n)) _ t4 in
+    record {
+      layers = eqb→eq _ _ (first (eqb (r .h) (r .d * r .h')) _ t);
+      some-layer = ltb→lt _ _ (first (ltb 0 (r .d)) _ t1);
+      digest-long = eqb→eq _ _ (first (eqb (r .m) _) _ t2);
+      public-long = eqb→eq _ _ (first (eqb (r .publicBytes) (2 * r .n)) _ t3);
+      secret-long = eqb→eq _ _ (first (eqb (r .secretBytes) (4 * r .n)) _ t4);
+      seal-long = eqb→eq _ _ (first (eqb (r .sealBytes) _) _ t5);
+      checksum-fits = ltb→lt _ _ (second (eqb (r .sealBytes) _) _ t5);
+    }
+
+pub every-row : T (every rows)
+unfolding rows every good
+every-row = tt
+
+-- A row that is found has the number asked for, and is legal.
+found : (number : ℕ) (rs : List Row) (r : Row) → T (every rs) → find number rs ≡ some r → (r .number ≡ number) × Legal r
+unfolding find every
+found number [] r t e = let z : _≡_ {A = ℕ} 0 1 = cc in absurd (omega arith)
+found number (q ∷ rs) r t e =
+    here (eqb number (q .number)) refl e (λ e′. found number rs r (second (good q) (every rs) t) e′)
+  where
+    here : (b : Bool) → eqb number (q .number) ≡ b → cond b (some q) (find number rs) ≡ some r
+        → (find number rs ≡ some r → (r .number ≡ number) × Legal r) → (r .number ≡ number) × Legal r
+    here true h e′ later =
+        let same : q ≡ r = cc in (
+          ap (λ (x : Row). x .number) (sym same) ∙ sym (eqb→eq number (q .number) (subst T (sym h) tt)),
+          subst Legal same (legal q (first (good q) (every rs) t)),
+        )
+    here false h e′ later = later e′
+
+pub rowOf-legal : (number : ℕ) (r : Row) → rowOf number ≡ some r → (r .number ≡ number) × Legal r
+unfolding rowOf
+rowOf-legal number r e = found number rows r every-row e
+
+-- The bounds of F calls, worked out for every row.
+pub row-bounds : bounds rows ≡ 329 ∷ 3584 ∷ 1023 ∷ 11253 ∷ []
+unfolding bounds rows
+row-bounds = refl

@@ -1,0 +1,14 @@
+-- Every starred case holds: the table is worked out.
+-- Assumes nothing.
+use mathlib.Core.Path.{refl}
+use mathlib.Core.List.{_++_}
+use Rattle.rules.specs.Digits.{value, digits, base2b}
+use Rattle.rules.specs.Places.{words, address}
+use Rattle.rules.specs.Chains.{steps, ownDigits, checksum, chainDigits}
+use Rattle.rules.specs.Digest.{lastBits}
+use Rattle.rules.specs.Findings.{treeAt, leafAt}
+use Rattle.rules.specs.Starred.{table, Holds}
+
+pub starred : Holds table
+unfolding table value digits base2b words address steps ownDigits checksum chainDigits lastBits treeAt leafAt
+starred = (refl, (refl, (refl, (refl, (refl, (refl, (refl, (refl, (refl, (refl, (refl, tt)))))))))))

@@ -1,0 +1,16 @@
+-- FIPS 205, in reading order.
+pub mod Digits
+pub mod Places
+pub mod Calls
+pub mod Chains
+pub mod Trees
+pub mod Layers
+pub mod Forest
+pub mod Digest
+pub mod Keys
+pub mod Seal
+pub mod Check
+pub mod Findings
+pub mod Counts
+pub mod Sets
+pub mod Starred
