@@ -88,7 +88,8 @@ value-ones b zero = ap (λ (x : ℕ). 2 ^ x) (sym (mul-zero b))
 value-ones b (suc c) =
     rw (length-replicate c (2 ^ b - 1))
     (sym (add-suc ((2 ^ b - 1) * 2 ^ (b * c)) _)
-    ∙ ap (λ (x : ℕ). (2 ^ b - 1) * 2 ^ (b * c) + x) (value-ones b c) ∙ sym (suc-mul (2 ^ b - 1) (2 ^ (b * c))) ∙ ap (λ (x : ℕ). x * 2 ^ (b * c)) (suc-ones b)
+    ∙ ap (λ (x : ℕ). (2 ^ b - 1) * 2 ^ (b * c) + x) (value-ones b c)
+    ∙ sym (suc-mul (2 ^ b - 1) (2 ^ (b * c))) ∙ ap (λ (x : ℕ). x * 2 ^ (b * c)) (suc-ones b)
     ∙ sym (pow-add 2 b (b * c)) ∙ ap (λ (x : ℕ). 2 ^ x) more-digits)
   where
     more-digits : b + b * c ≡ b * suc c

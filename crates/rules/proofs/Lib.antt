@@ -15,3 +15,5 @@ pub mod Starred
 pub mod SetLaws
 pub mod CountLaws
 pub mod CostLaws
+pub mod AddressLaws
+pub mod Sample

@@ -25,7 +25,7 @@ unfolding join sibling
 children f i = by-side (i % 2) refl (mod-lt i (zero-lt-suc 1))
   where
     by-side : (r : ℕ) → i % 2 ≡ r → r < 2
-        → join r (f i) (f (i + 1 - 2 * (i % 2))) ≡ f (2 * (i / 2)) ++ f (2 * (i / 2) + 1)
+        → join r (f i) (f (sibling i)) ≡ f (2 * (i / 2)) ++ f (2 * (i / 2) + 1)
     by-side zero e h = ap₂ (λ a b. f a ++ f b) (omega arith) (omega arith)
     by-side (suc r) e h = ap₂ (λ a b. f a ++ f b) (omega arith) (omega arith)
 

@@ -3,7 +3,7 @@
 use mathlib.Core.Path.{_≡_}
 use mathlib.Core.List.{List}
 use Prim.Native.Nat.{ℕ, _+_, _-_, _*_, _/_, _%_, _^_, _<_}
-use lib.ListN.{take, drop}
+use lib.ListN.{length, take, drop}
 use Rattle.rules.specs.Digits.{toInt, base2b}
 use Rattle.rules.specs.Places.{Bytes}
 use Rattle.rules.specs.Chains.{chains}
