@@ -1,5 +1,5 @@
-//! A row small enough to be worked out by a proof checker, with a stand-in hash: the numbers below stand word for word in
-//! `crates/rules/proofs/Sample.antt`, where the definitions are proved to give them.
+//! A row small enough to be worked out by a proof checker, with a stand-in hash: the numbers below stand in
+//! `crates/rules/proofs/Sample.antt` too, where the definitions are proved to give them.
 
 use second::address::Address;
 use second::sets::Params;

@@ -1,3 +1,5 @@
 -- Laws on lists and numbers that several crates cite.
 pub mod Parts
 pub mod Numbers
+pub mod Below
+pub mod Xor

@@ -39,7 +39,8 @@ module _ (r : Row) (f : Family (r .n) (r .m)) where
         rw (
           part-forest r legal f sk pk at p R long,
           part-layers r legal f sk pk at p R long,
-          forest-accepts (under f pk) sk (at .tree) (at .leaf) (r .a) (r .k) (p .indices-below) (p .indices-long),
+          forest-accepts (under f pk) sk (at .tree) (at .leaf) (r .a) (r .k) (at .indices) (p .indices-below)
+              (p .indices-long),
         )
         (layers-accept (under f pk) (r .h') sk (r .d - 1) 0 (at .tree) (at .leaf) _ (p .leaf-lt) (p .tree-lt)
         ∙ ap (λ (x : ℕ). ownRoot (under f pk) (r .h') sk x 0 .result) (zero-add (r .d - 1)))

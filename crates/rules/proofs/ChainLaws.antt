@@ -11,7 +11,7 @@ use native.Mathlib.Numerals.{add-one}
 use lib.ListN.{length, getD, take, drop, length-append, length-drop, take-append-drop}
 use lib.Seq.{take-at, drop-at, length-take-le}
 use Rattle.lists.proofs.Parts.{append-inj, nil-of-length, piece-suc}
-use Rattle.rules.specs.Digits.{Below, none, more}
+use Rattle.lists.specs.Below.{Below}
 use Rattle.rules.specs.Places.{Bytes, IsBytes, Place, chainStep, chainEnds, chainSecret, address}
 use Rattle.rules.specs.Calls.{F, T, PRF, Hashes, Run, Call, callOf}
 use Rattle.rules.specs.Chains.{chains, chainDigits, chain, ends, leaf, shown, walk, leafFrom, ownChain}
@@ -139,18 +139,18 @@ module _ (w : Hashes) (l t p : ℕ) (sk : Bytes) where
       ∙ ap (ownChain w l t p sk c) (omega arith)
 
   -- Acceptance: the ends that a seal leads to are the key's ends.
-  walk-shown : (c : ℕ) {ds : List ℕ} → Below 16 ds
+  walk-shown : (c : ℕ) (ds : List ℕ) → Below 16 ds
       → walk w l t p c ds (shown w l t p sk c ds .result) .result ≡ ends w l t p sk c (length ds) .result
   unfolding walk ends
-  walk-shown c none = refl
-  walk-shown c (more {x = d} {xs = ds} h r) =
+  walk-shown c [] b = refl
+  walk-shown c (d ∷ ds) b =
       rw (
         shown-cons c d ds,
         ends-suc c (length ds),
         take-at (ownChain w l t p sk c d) (shown w l t p sk (suc c) ds .result) (w .n) (own-long c d),
         drop-at (ownChain w l t p sk c d) (shown w l t p sk (suc c) ds .result) (w .n) (own-long c d),
-        own-end c d h,
-        walk-shown (suc c) r,
+        own-end c d (b 0),
+        walk-shown (suc c) ds (λ i. b (suc i)),
       )
 
   -- Chain j of what is shown from chain c on.
@@ -183,7 +183,8 @@ module _ (w : Hashes) (l t p : ℕ) (sk : Bytes) where
   pub leaf-accepts : (M : Bytes)
       → leafFrom w l t p (shown w l t p sk 0 (chainDigits (w .n) M) .result) M .result ≡ leaf w l t p sk .result
   unfolding leafFrom
-  leaf-accepts M = rw (leaf-is, walk-shown 0 (chainDigits-below (w .n) M), length-chainDigits (w .n) M)
+  leaf-accepts M =
+      rw (leaf-is, walk-shown 0 (chainDigits (w .n) M) (chainDigits-below (w .n) M), length-chainDigits (w .n) M)
 
   -- ---- What a walk that ends at the key's own ends shows
 
@@ -209,16 +210,16 @@ module _ (w : Hashes) (l t p : ℕ) (sk : Bytes) where
         to-end = omega arith
 
     -- Chains are looked at from the first on.
-    walk-shows : (c : ℕ) {ds : List ℕ} (sig : Bytes) → Below 16 ds → Owns Own (ends w l t p sk c (length ds))
+    walk-shows : (c : ℕ) (ds : List ℕ) (sig : Bytes) → Below 16 ds → Owns Own (ends w l t p sk c (length ds))
         → length sig ≡ length ds * w .n → walk w l t p c ds sig .result ≡ ends w l t p sk c (length ds) .result
         → (sig ≡ shown w l t p sk c ds .result) ⊎ Collision w Own (walk w l t p c ds sig .calls)
     unfolding walk
-    walk-shows c sig none o long e = inl (nil-of-length sig (long ∙ zero-mul (w .n)) ∙ sym (shown-nil c))
-    walk-shows c sig (more {x = d} {xs = ds} h r) o long e =
+    walk-shows c [] sig b o long e = inl (nil-of-length sig (long ∙ zero-mul (w .n)) ∙ sym (shown-nil c))
+    walk-shows c (d ∷ ds) sig b o long e =
         then (found (before (rest .calls ++ []))
-        (one-shows c d (take (w .n) sig) (owns-first c (length ds) o) h (both .0))) (λ q.
+        (one-shows c d (take (w .n) sig) (owns-first c (length ds) o) (b 0) (both .0))) (λ q.
         then (found (λ x. after (one .calls) (before [] x))
-        (walk-shows (suc c) (drop (w .n) sig) r (owns-rest c (length ds) o)
+        (walk-shows (suc c) ds (drop (w .n) sig) (λ i. b (suc i)) (owns-rest c (length ds) o)
         (simp length-drop (omega (arith, long, suc-mul (length ds) (w .n)))) (both .1))) (λ s.
         inl (sym (take-append-drop (w .n) sig) ∙ ap₂ _++_ q s ∙ sym (shown-cons c d ds))))
       where
@@ -254,7 +255,7 @@ module _ (w : Hashes) (l t p : ℕ) (sk : Bytes) where
         then (found (after (run .calls))
         (same-input w Own a-T (chainEnds l t p) (run .result) _ (own-compress o) (e ∙ leaf-is))) (λ q.
         found (before (callOf T (chainEnds l t p) (run .result) ∷ []))
-        (walk-shows 0 sig (chainDigits-below (w .n) M) (rw many (owns-ends o))
+        (walk-shows 0 (chainDigits (w .n) M) sig (chainDigits-below (w .n) M) (rw many (owns-ends o))
         (long ∙ ap (λ (x : ℕ). x * w .n) (sym many)) (q ∙ ap (λ (x : ℕ). ends w l t p sk 0 x .result) (sym many))))
       where
         run : Run Bytes

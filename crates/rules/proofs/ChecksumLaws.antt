@@ -9,11 +9,13 @@ use native.Mathlib.Nat.{mod-eq-of-lt, zero-lt-suc, le-refl, add-le-add, mul-le-m
 use native.Mathlib.Decide.{decLt}
 use native.Mathlib.Omega.{arith}
 use lib.ListN.{length, getD, length-append}
-use Rattle.rules.specs.Digits.{value, digits, Below, none, more, base2b, toByte}
+use Rattle.lists.specs.Below.{Below}
+use Rattle.lists.proofs.Below.{below-append}
+use Rattle.rules.specs.Digits.{value, digits, base2b, toByte}
 use Rattle.rules.specs.Places.{Bytes, IsBytes}
 use Rattle.rules.specs.Chains.{chains, steps, ownDigits, checksum, chainDigits}
 use Rattle.lists.proofs.Parts.{append-inj}
-use Rattle.rules.proofs.DigitLaws.{length-digits, length-base2b, digits-below, base2b-below, below-append, value-digits, base2b-inj}
+use Rattle.rules.proofs.DigitLaws.{length-digits, length-base2b, digits-below, base2b-below, value-digits, base2b-inj}
 
 -- ---- One list of digits over another: none of its digits is lower
 
@@ -61,8 +63,11 @@ over-steps (cons h o) = let r = over-steps o in omega arith
 -- What is over, with a sum that is no smaller, is equal.
 over-equal : {ds es : List ℕ} → Below 16 ds → Over ds es → steps es ≤ steps ds → ds ≡ es
 unfolding steps
-over-equal none nil h = refl
-over-equal (more d< b) (cons e≤ o) h = let r = over-steps o in ap₂ _∷_ (omega arith) (over-equal b o (omega arith))
+over-equal b nil h = refl
+over-equal b (cons e≤ o) h =
+    let r = over-steps o in
+    let d< = b 0 in
+    ap₂ _∷_ (omega arith) (over-equal (λ i. b (suc i)) o (omega arith))
 
 over-split : (xs ys : List ℕ) {bs ds : List ℕ} → length xs ≡ length ys → Over (xs ++ bs) (ys ++ ds)
     → Over xs ys × Over bs ds
@@ -97,7 +102,7 @@ own-below n M = base2b-below M 4 (2 * n)
 own-inj : (n : ℕ) (M N : Bytes) → IsBytes n M → IsBytes n N → ownDigits n M ≡ ownDigits n N → M ≡ N
 unfolding ownDigits
 own-inj n M N hM hN e =
-    base2b-inj 4 (2 * n) (hM .small) (hN .small) (omega (arith, hM .long)) (omega (arith, hN .long)) e
+    base2b-inj 4 (2 * n) M N (hM .small) (hN .small) (omega (arith, hM .long)) (omega (arith, hN .long)) e
 
 -- The checksum is at most 30·n.
 pub checksum-le : (n : ℕ) (M : Bytes) → checksum n M ≤ 30 * n
@@ -106,7 +111,7 @@ checksum-le n M = omega (arith, steps-le (ownDigits n M), length-own n M)
 
 pub chainDigits-below : (n : ℕ) (M : Bytes) → Below 16 (chainDigits n M)
 unfolding chainDigits
-chainDigits-below n M = below-append (own-below n M) (base2b-below _ 4 3)
+chainDigits-below n M = below-append 16 (ownDigits n M) _ (own-below n M) (base2b-below _ 4 3)
 
 pub length-chainDigits : (n : ℕ) (M : Bytes) → length (chainDigits n M) ≡ chains n
 unfolding chainDigits

@@ -8,7 +8,8 @@ use native.Mathlib.Nat.{zero-lt-suc, div-one, mod-eq-of-lt, div-div-eq-div-mul, 
 use native.Mathlib.Omega.{arith}
 use lib.ListN.{length, replicate, length-replicate}
 use lib.Pow.{pow-add, pow-pos, suc-ones}
-use Rattle.rules.specs.Digits.{value, digits, toInt, base2b, Below, none, more}
+use Rattle.lists.proofs.Below.{below-replicate}
+use Rattle.rules.specs.Digits.{value, digits, toInt, base2b}
 use Rattle.rules.specs.Places.{Bytes, IsBytes}
 use Rattle.rules.specs.Calls.{Family}
 use Rattle.rules.specs.Chains.{steps, ownDigits, checksum, chainDigits}
@@ -59,10 +60,6 @@ pub greatest : (n : ℕ) → 30 * n < 16 ^ 3 → (M : Bytes) → steps (chainDig
 greatest n fits M = rw (value-cost n fits M) (cost-mono (checksum n M) (30 * n) (checksum-le n M))
 
 -- c digits that are all x.
-below-replicate : (c x k : ℕ) → x < k → Below k (replicate c x)
-below-replicate zero x k h = none
-below-replicate (suc c) x k h = more h (below-replicate c x k h)
-
 steps-replicate : (c x : ℕ) → steps (replicate c x) ≡ c * (15 - x)
 unfolding steps
 steps-replicate zero x = sym (zero-mul (15 - x))
@@ -74,7 +71,8 @@ own-of : (n x y : ℕ) → y < 16 → value 8 (replicate n x) ≡ value 4 (repli
 unfolding ownDigits
 own-of n x y h e =
     base2b-whole (replicate n x) 4 (2 * n) (omega (arith, length-replicate n x))
-    ∙ ap₂ (digits 4) (sym (length-replicate (2 * n) y)) e ∙ digits-value 4 (below-replicate (2 * n) y 16 h)
+    ∙ ap₂ (digits 4) (sym (length-replicate (2 * n) y)) e
+    ∙ digits-value 4 (replicate (2 * n) y) (below-replicate 16 (2 * n) y (omega arith) h)
 
 -- Zeros stand for zero, and ones stand for one less than the next power.
 value-zeros : (b c : ℕ) → value b (replicate c 0) ≡ 0

@@ -7,7 +7,7 @@ use native.Mathlib.Nat.{mod-lt, sub-zero, suc-sub-suc, mul-suc, suc-mul, mul-com
 use native.Mathlib.Omega.{arith}
 use lib.ListN.{length}
 use lib.Pow.{pow-pos, shr-lt}
-use Rattle.rules.specs.Digits.{Below}
+use Rattle.lists.specs.Below.{Below}
 use Rattle.rules.specs.Places.{Bytes}
 use Rattle.rules.specs.Digest.{Row, Legal, Pointed, lastBits, pointed}
 use Rattle.rules.specs.Findings.{treeAt, leafAt}

@@ -8,7 +8,9 @@ use native.Mathlib.Omega.{arith}
 use lib.ListN.{length}
 use lib.Arith.{digits-lt}
 use lib.Pow.{pow-pos, pow-add, mod-pow-add, high}
-use Rattle.rules.specs.Digits.{value, digits, toInt, base2b, Below, none, more}
+use Rattle.lists.specs.Below.{Below}
+use Rattle.lists.proofs.Below.{below-nil, below-cons}
+use Rattle.rules.specs.Digits.{value, digits, toInt, base2b}
 
 -- As many digits as were asked for.
 pub length-digits : (b out x : ℕ) → length (digits b out x) ≡ out
@@ -23,17 +25,13 @@ length-base2b X b out = length-digits b out _
 -- Every digit of width b is below 2^b.
 pub digits-below : (b out x : ℕ) → Below (2 ^ b) (digits b out x)
 unfolding digits
-digits-below b zero x = none
-digits-below b (suc out) x = more (mod-lt (x / 2 ^ (b * out)) (pow-pos b)) (digits-below b out x)
+digits-below b zero x = below-nil (2 ^ b) (pow-pos b)
+digits-below b (suc out) x =
+    below-cons (2 ^ b) _ (digits b out x) (mod-lt (x / 2 ^ (b * out)) (pow-pos b)) (digits-below b out x)
 
 pub base2b-below : (X : List ℕ) (b out : ℕ) → Below (2 ^ b) (base2b X b out)
 unfolding base2b
 base2b-below X b out = digits-below b out _
-
--- Joined lists are below what both are below.
-pub below-append : {c : ℕ} {xs ys : List ℕ} → Below c xs → Below c ys → Below c (xs ++ ys)
-below-append none h = h
-below-append (more x< r) h = more x< (below-append r h)
 
 -- The digits of x stand for x, less what they cut off.
 pub value-digits : (b out x : ℕ) → value b (digits b out x) ≡ x % 2 ^ (b * out)
@@ -47,10 +45,10 @@ pow-one-more : (b out : ℕ) → 2 ^ (b * suc out) ≡ 2 ^ b * 2 ^ (b * out)
 pow-one-more b out = rw (mul-suc b out, add-comm (b * out) b) (pow-add 2 b (b * out))
 
 -- What digits stand for fits as many digits.
-pub value-lt : (b : ℕ) {xs : List ℕ} → Below (2 ^ b) xs → value b xs < 2 ^ (b * length xs)
+pub value-lt : (b : ℕ) (xs : List ℕ) → Below (2 ^ b) xs → value b xs < 2 ^ (b * length xs)
 unfolding value
-value-lt b none = pow-pos (b * 0)
-value-lt b (more {x = x} {xs = xs} h r) = rw (pow-one-more b (length xs)) (digits-lt h (value-lt b r))
+value-lt b [] h = pow-pos (b * 0)
+value-lt b (x ∷ xs) h = rw (pow-one-more b (length xs)) (digits-lt (h 0) (value-lt b xs (λ i. h (suc i))))
 
 -- What stands above the digits does not change them.
 pub digits-above : (b out x y : ℕ) → digits b out (y * 2 ^ (b * out) + x) ≡ digits b out x
@@ -66,15 +64,15 @@ digits-above b (suc out) x y =
     )
 
 -- The digits of what digits stand for are those digits.
-pub digits-value : (b : ℕ) {xs : List ℕ} → Below (2 ^ b) xs → digits b (length xs) (value b xs) ≡ xs
+pub digits-value : (b : ℕ) (xs : List ℕ) → Below (2 ^ b) xs → digits b (length xs) (value b xs) ≡ xs
 unfolding value digits
-digits-value b none = refl
-digits-value b (more {x = x} {xs = xs} h r) =
+digits-value b [] h = refl
+digits-value b (x ∷ xs) h =
     rw (
-      high x (b * length xs) (value-lt b r),
-      mod-eq-of-lt h,
+      high x (b * length xs) (value-lt b xs (λ i. h (suc i))),
+      mod-eq-of-lt (h 0),
       digits-above b (length xs) (value b xs) x,
-      digits-value b r,
+      digits-value b xs (λ i. h (suc i)),
     )
 
 -- Equal digits, equal numbers; and equal numbers, equal digits.
@@ -82,9 +80,9 @@ pub digits-inj : (b out x y : ℕ) → x < 2 ^ (b * out) → y < 2 ^ (b * out) �
 digits-inj b out x y hx hy e =
     sym (mod-eq-of-lt hx) ∙ sym (value-digits b out x) ∙ ap (value b) e ∙ value-digits b out y ∙ mod-eq-of-lt hy
 
-pub value-inj : (b : ℕ) {xs ys : List ℕ} → Below (2 ^ b) xs → Below (2 ^ b) ys → length xs ≡ length ys
+pub value-inj : (b : ℕ) (xs ys : List ℕ) → Below (2 ^ b) xs → Below (2 ^ b) ys → length xs ≡ length ys
     → value b xs ≡ value b ys → xs ≡ ys
-value-inj b {xs} {ys} hx hy l e = sym (digits-value b hx) ∙ ap₂ (digits b) l e ∙ digits-value b hy
+value-inj b xs ys hx hy l e = sym (digits-value b xs hx) ∙ ap₂ (digits b) l e ∙ digits-value b ys hy
 
 -- Where base_2b cuts nothing off, it gives the digits of the whole number.
 pub base2b-whole : (X : List ℕ) (b out : ℕ) → 8 * length X ≡ b * out → base2b X b out ≡ digits b out (toInt X)
@@ -92,9 +90,9 @@ unfolding base2b
 base2b-whole X b out e = rw (e, sub-self (b * out)) (ap (digits b out) (div-one (toInt X)))
 
 -- Where base_2b cuts nothing off, different byte strings have different digits.
-pub base2b-inj : (b out : ℕ) {X Y : List ℕ} → Below 256 X → Below 256 Y → 8 * length X ≡ b * out
+pub base2b-inj : (b out : ℕ) (X Y : List ℕ) → Below 256 X → Below 256 Y → 8 * length X ≡ b * out
     → 8 * length Y ≡ b * out → base2b X b out ≡ base2b Y b out → X ≡ Y
-base2b-inj b out {X} {Y} hx hy lx ly e =
-    value-inj 8 hx hy (omega arith)
-    (digits-inj b out (toInt X) (toInt Y) (rw (← lx) (value-lt 8 hx)) (rw (← ly) (value-lt 8 hy))
+base2b-inj b out X Y hx hy lx ly e =
+    value-inj 8 X Y hx hy (omega arith)
+    (digits-inj b out (toInt X) (toInt Y) (rw (← lx) (value-lt 8 X hx)) (rw (← ly) (value-lt 8 Y hy))
     (sym (base2b-whole X b out lx) ∙ e ∙ base2b-whole Y b out ly))

@@ -11,7 +11,7 @@ use lib.ListN.{length, take, drop, length-append, length-drop, take-append-drop}
 use lib.Pow.{high}
 use lib.Seq.{take-at, drop-at, length-take-le, drop-drop}
 use Rattle.lists.proofs.Parts.{append-inj, nil-of-length}
-use Rattle.rules.specs.Digits.{Below, none, more}
+use Rattle.lists.specs.Below.{Below}
 use Rattle.rules.specs.Places.{Bytes, IsBytes, forestNode, forestRoots, forestSecret, address}
 use Rattle.rules.specs.Calls.{F, T, PRF, Hashes, Run, Call, callOf}
 use Rattle.rules.specs.Trees.{node, path, climb}
@@ -87,11 +87,11 @@ module _ (w : Hashes) (sk : Bytes) (t p a : ℕ) where
       ))
 
   -- Acceptance: from each leaf along its own path one comes to the root of its tree.
-  walk-seal : (j : ℕ) {xs : List ℕ} → Below (2 ^ a) xs
+  walk-seal : (j : ℕ) (xs : List ℕ) → Below (2 ^ a) xs
       → forestWalk w t p a j xs (forestSeal w t p a sk j xs .result) .result ≡ roots w t p a sk j (length xs) .result
   unfolding forestWalk roots
-  walk-seal j none = refl
-  walk-seal j (more {x = x} {xs = xs} h r) =
+  walk-seal j [] b = refl
+  walk-seal j (x ∷ xs) b =
       rw (
         ← next-tree (w .n) a (forestSeal w t p a sk j (x ∷ xs) .result),
         seal-cons j x xs,
@@ -100,8 +100,8 @@ module _ (w : Hashes) (sk : Bytes) (t p a : ℕ) where
         take-at (pathOf i) rest (a * w .n) (path-long i),
         drop-at (pathOf i) rest (a * w .n) (path-long i),
         ← leaf-is i,
-        leaf-climbs w (forestTree w t p sk) leaf-sized a i j (high j a h),
-        walk-seal (suc j) r,
+        leaf-climbs w (forestTree w t p sk) leaf-sized a i j (high j a (b 0)),
+        walk-seal (suc j) xs (λ y. b (suc y)),
       )
       (sym (roots-suc j (length xs)))
     where
@@ -111,10 +111,10 @@ module _ (w : Hashes) (sk : Bytes) (t p a : ℕ) where
       rest : Bytes
       rest = forestSeal w t p a sk (suc j) xs .result
 
-  pub forest-accepts : (k : ℕ) {xs : List ℕ} → Below (2 ^ a) xs → length xs ≡ k
+  pub forest-accepts : (k : ℕ) (xs : List ℕ) → Below (2 ^ a) xs → length xs ≡ k
       → forestRoot w t p a xs (forestSeal w t p a sk 0 xs .result) .result ≡ ownForest w t p a sk k .result
   unfolding forestRoot ownForest
-  forest-accepts k b l = rw (walk-seal 0 b, l)
+  forest-accepts k xs b l = rw (walk-seal 0 xs b, l)
 
   -- ---- What a forest that leads to the key's own shows
 
@@ -133,22 +133,23 @@ module _ (w : Hashes) (sk : Bytes) (t p a : ℕ) where
     own-leaf-call i o = o _ (List·Memᴰ·tail (List·Memᴰ·head refl))
 
     -- Trees are looked at from the first on, each from its root down to the leaf's F.
-    forest-walk-shows : (j : ℕ) {xs : List ℕ} (sig : Bytes) → Below (2 ^ a) xs
+    forest-walk-shows : (j : ℕ) (xs : List ℕ) (sig : Bytes) → Below (2 ^ a) xs
         → Owns Own (roots w t p a sk j (length xs)) → length sig ≡ length xs * treeBytes (w .n) a
         → forestWalk w t p a j xs sig .result ≡ roots w t p a sk j (length xs) .result
         → (sig ≡ forestSeal w t p a sk j xs .result) ⊎ Collision w Own (forestWalk w t p a j xs sig .calls)
     unfolding forestWalk treeBytes
-    forest-walk-shows j sig none o long e =
+    forest-walk-shows j [] sig b o long e =
         inl (nil-of-length sig (long ∙ zero-mul (w .n + a * w .n)) ∙ sym (seal-nil j))
-    forest-walk-shows j sig (more {x = x} {xs = xs} h r) o long e =
+    forest-walk-shows j (x ∷ xs) sig b o long e =
         then (found (λ c. after (callOf F (forestNode t p 0 i) s ∷ []) (before (rest .calls ++ []) c))
-        (leaf-climb-shows w (forestTree w t p sk) leaf-sized Own a i j v auth (high j a h) own-tree
+        (leaf-climb-shows w (forestTree w t p sk) leaf-sized Own a i j v auth (high j a (b 0)) own-tree
         (w .sized F (address (forestNode t p 0 i)) s .long) auth-long (both .0))) (λ u.
         then (found (before (climbRun .calls ++ (rest .calls ++ [])))
         (same-input w Own an-F (forestNode t p 0 i) s (secretOf i)
-        (own-leaf-call i (owns-leaf w (forestTree w t p sk) Own a i j (high j a h) own-tree)) (u .0 ∙ leaf-is i))) (λ q.
+        (own-leaf-call i (owns-leaf w (forestTree w t p sk) Own a i j (high j a (b 0)) own-tree))
+        (u .0 ∙ leaf-is i))) (λ q.
         then (found (λ c. after (callOf F (forestNode t p 0 i) s ∷ []) (after (climbRun .calls) (before [] c)))
-        (forest-walk-shows (suc j) (drop (treeBytes (w .n) a) sig) r (owns-rest j (length xs) o)
+        (forest-walk-shows (suc j) xs (drop (treeBytes (w .n) a) sig) (λ y. b (suc y)) (owns-rest j (length xs) o)
         (simp length-drop (omega (arith, long, suc-mul (length xs) (w .n + a * w .n)))) (both .1))) (λ y.
         inl (sym (take-append-drop (w .n) sig) ∙ ap₂ _++_ q (sym (take-append-drop (a * w .n) (drop (w .n) sig))
         ∙ ap₂ _++_ (u .1) (next-tree (w .n) a sig ∙ y)) ∙ sym (seal-cons j x xs)))))
@@ -195,16 +196,16 @@ module _ (w : Hashes) (sk : Bytes) (t p a : ℕ) where
     own-compress k o = o _ (Memᴰ·append-right (roots w t p a sk 0 k .calls) (List·Memᴰ·head refl))
 
     -- T first, then the trees.
-    pub forest-shows : (k : ℕ) {xs : List ℕ} (sig : Bytes) → Below (2 ^ a) xs → length xs ≡ k
+    pub forest-shows : (k : ℕ) (xs : List ℕ) (sig : Bytes) → Below (2 ^ a) xs → length xs ≡ k
         → Owns Own (ownForest w t p a sk k) → length sig ≡ forestBytes (w .n) a k
         → forestRoot w t p a xs sig .result ≡ ownForest w t p a sk k .result
         → (sig ≡ forestSeal w t p a sk 0 xs .result) ⊎ Collision w Own (forestRoot w t p a xs sig .calls)
     unfolding forestRoot ownForest forestBytes
-    forest-shows k {xs} sig b l o long e =
+    forest-shows k xs sig b l o long e =
         then (found (after (run .calls))
         (same-input w Own a-T (forestRoots t p) (run .result) _ (own-compress k o) e)) (λ q.
         found (before (callOf T (forestRoots t p) (run .result) ∷ []))
-        (forest-walk-shows 0 sig b (rw l (owns-roots k o)) (long ∙ ap (λ (y : ℕ). y * treeBytes (w .n) a) (sym l))
+        (forest-walk-shows 0 xs sig b (rw l (owns-roots k o)) (long ∙ ap (λ (y : ℕ). y * treeBytes (w .n) a) (sym l))
         (q ∙ ap (λ (y : ℕ). roots w t p a sk 0 y .result) (sym l))))
       where
         run : Run Bytes

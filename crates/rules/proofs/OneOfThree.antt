@@ -262,8 +262,9 @@ module _ (r : Row) (legal : Legal r) (f : Family (r .n) (r .m)) (sk pk : Bytes) 
           then (found (either (after (forestRun r f pk at seal .calls)) (λ x. x))
           (layers-show at in-key seal held (accepted .long) held-part (r .d - 1) 0 (zero-add (r .d - 1)) leads)) (λ q.
           then (found (λ c. inl (before (layersRun r f pk at seal (r .d - 1) 0 .calls) c))
-          (forest-shows (under f pk) sk (at .tree) (at .leaf) (r .a) Own (r .k) (part r 1 seal) (in-key .indices-below)
-          (in-key .indices-long) owns-forest (part-long r legal 1 seal (omega arith) (accepted .long)) (q .0))) (λ s.
+          (forest-shows (under f pk) sk (at .tree) (at .leaf) (r .a) Own (r .k) (at .indices) (part r 1 seal)
+          (in-key .indices-below) (in-key .indices-long) owns-forest
+          (part-long r legal 1 seal (omega arith) (accepted .long)) (q .0))) (λ s.
           inl (whole s (q .1))))
 
       answer : (seal ≡ held) ⊎ (Collision (under f pk) Own (walkRun .calls) ⊎ LowStart r f pk at sk seal held)

@@ -85,7 +85,8 @@ module _ (r : Row) (legal : Legal r) (f : Family (r .n) (r .m)) (sk pk : Bytes) 
   pub written-is : written r f sk pk at .result ≡ forest ++ layersFrom (r .d - 1) 0
   unfolding written treeAt leafAt heldValue
   written-is =
-      rw (forest-accepts (under f pk) sk (at .tree) (at .leaf) (r .a) (r .k) (p .indices-below) (p .indices-long))
+      rw (forest-accepts (under f pk) sk (at .tree) (at .leaf) (r .a) (r .k) (at .indices) (p .indices-below)
+      (p .indices-long))
 
   pub forest-long : length forest ≡ perForest r
   forest-long =

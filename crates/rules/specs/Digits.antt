@@ -1,7 +1,7 @@
 -- Numbers as digits of width b, most significant first (FIPS 205, section 4.4).
 -- Assumes nothing.
 use mathlib.Core.List.{List, [], _∷_}
-use Prim.Native.Nat.{ℕ, zero, suc, _+_, _-_, _*_, _/_, _%_, _^_, _<_}
+use Prim.Native.Nat.{ℕ, zero, suc, _+_, _-_, _*_, _/_, _%_, _^_}
 use lib.ListN.{length}
 
 -- The number that digits of width b stand for.
@@ -25,8 +25,3 @@ toByte x n = digits 8 n x
 -- Algorithm 4, base_2b: the first b·out bits of X, in groups of b.
 unfoldable pub base2b : (X : List ℕ) (b out : ℕ) → List ℕ
 base2b X b out = digits b out (toInt X / 2 ^ (8 * length X - b * out))
-
--- Every number of a list is below c.
-pub data Below (c : ℕ) : List ℕ → Type 0 where
-  none : Below c []
-  more : {x : ℕ} {xs : List ℕ} → x < c → Below c xs → Below c (x ∷ xs)

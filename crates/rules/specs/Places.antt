@@ -4,7 +4,8 @@ use mathlib.Core.Path.{_≡_}
 use mathlib.Core.List.{List, _++_}
 use Prim.Native.Nat.{ℕ}
 use lib.ListN.{length}
-use Rattle.rules.specs.Digits.{toByte, Below}
+use Rattle.lists.specs.Below.{Below}
+use Rattle.rules.specs.Digits.{toByte}
 
 abbrev pub Bytes : Type 0
 Bytes = List ℕ

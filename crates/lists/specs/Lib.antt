@@ -1,0 +1,2 @@
+-- Words on lists that several crates' definitions use.
+pub mod Below
