@@ -5,7 +5,7 @@ use mathlib.Core.List.{List, [], _∷_, _++_}
 use Prim.Native.Nat.{ℕ, zero, suc, _+_, _-_, _*_, _≤_, _<_}
 use native.Mathlib.Nat.{suc-ne-zero, suc-mul, add-comm, mul-le-mul-right}
 use native.Mathlib.Omega.{arith}
-use lib.ListN.{length, take, drop, length-drop}
+use lib.ListN.{length, take, drop, replicate, length-drop, length-replicate}
 use lib.Seq.{take-at, drop-at, take-take, length-take-le, drop-drop}
 
 module _ {A : Type 0} where
@@ -41,6 +41,17 @@ module _ {A : Type 0} where
   piece-suc n j a b e =
       ap (λ (x : ℕ). drop x (a ++ b)) (suc-mul j n ∙ add-comm (j * n) n)
       ∙ sym (drop-drop (j * n) n (a ++ b)) ∙ ap (drop (j * n)) (drop-at a b n e)
+
+-- The first n of k zeros, as a part that starts at 0 is written.
+pub zeros-part : (n k : ℕ) → n ≤ k → length {A = ℕ} (take (n - 0) (replicate k 0)) ≡ n
+zeros-part n k h =
+    let e : n - 0 ≡ n = omega arith in
+    rw e (length-take-le n (replicate {A = ℕ} k 0) (rw length-replicate h))
+
+-- A front part that was lent and filled with g of its length.
+pub front-part : (g : ℕ → List ℕ) (n : ℕ) {m : ℕ} {ys : List ℕ} (rest : List ℕ) → ys ≡ g m → length ys ≡ m → m ≡ n
+    → take n (ys ++ rest) ≡ g n
+front-part g n {m} {ys} rest e l k = take-at ys rest n (l ∙ k) ∙ e ∙ ap g k
 
 -- Piece j of n elements ends within d pieces.
 pub piece-room : (j d n : ℕ) → j < d → j * n + n ≤ d * n

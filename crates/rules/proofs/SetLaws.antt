@@ -57,6 +57,19 @@ found number (q ∷ rs) r t e =
         )
     here false h e′ later = later e′
 
+-- Past a row of another number the search goes on, and past the last there is none.
+pub find-next : (number : ℕ) (q : Row) (rs : List Row) → (number ≡ q .number → ⊥) → find number (q ∷ rs) ≡ find number rs
+unfolding find
+find-next number q rs other = by-test (eqb number (q .number)) refl
+  where
+    by-test : (b : Bool) → eqb number (q .number) ≡ b → cond b (some q) (find number rs) ≡ find number rs
+    by-test true h = absurd (other (eqb→eq number (q .number) (subst T (sym h) tt)))
+    by-test false h = refl
+
+pub find-end : (number : ℕ) → find number [] ≡ none
+unfolding find
+find-end number = refl
+
 pub rowOf-legal : (number : ℕ) (r : Row) → rowOf number ≡ some r → (r .number ≡ number) × Legal r
 unfolding rowOf
 rowOf-legal number r e = found number rows r every-row e

@@ -1,0 +1,8 @@
+pub mod Blocks
+pub mod Each
+pub mod Lanes
+pub mod Laws
+pub mod Pad
+pub mod Rounds
+pub mod Stream
+pub mod Tables

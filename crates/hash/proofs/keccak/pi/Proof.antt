@@ -1,0 +1,40 @@
+use mathlib.Core.Path.{refl}
+use Rattle.hash.specs.Keccak.{π, each, state, lane}
+use borrow.Author.Needs.{needs}
+use Rattle.hash.proofs.keccak.pi.Statement.{statement}
+use Rattle.hash.proofs.keccak.pi.Tie as tie
+
+returns : tie.Need-returns
+unfolding π state each lane
+returns c = refl
+
+pub pi-spec : {M : Type 1} → statement M
+pi-spec =
+    tie.close
+    (tie.spec
+    (λ c. search needs)
+    (λ c. search needs)
+    (λ c. search needs)
+    (λ c. search needs)
+    (λ c. search needs)
+    (λ c. search needs)
+    (λ c. search needs)
+    (λ c. search needs)
+    (λ c. search needs)
+    (λ c. search needs)
+    (λ c. search needs)
+    (λ c. search needs)
+    (λ c. search needs)
+    (λ c. search needs)
+    (λ c. search needs)
+    (λ c. search needs)
+    (λ c. search needs)
+    (λ c. search needs)
+    (λ c. search needs)
+    (λ c. search needs)
+    (λ c. search needs)
+    (λ c. search needs)
+    (λ c. search needs)
+    (λ c. search needs)
+    (λ c. search needs)
+    returns)

@@ -1,0 +1,10 @@
+use Rattle.hash.proofs.Rounds.{shift-pair}
+use borrow.Author.Needs.{needs}
+use Rattle.hash.proofs.keccak.rotate.Statement.{statement}
+use Rattle.hash.proofs.keccak.rotate.Tie as tie
+
+returns : tie.Need-returns
+returns c = shift-pair (c .args .n) (c .args .a) (c .pre) (c .fits .a .fits)
+
+pub rotate-spec : {M : Type 1} → statement M
+rotate-spec = tie.close (tie.spec (λ c. search needs) (λ c. search needs) (λ c. search needs) (λ c. search needs) returns)

@@ -1,0 +1,11 @@
+use Rattle.hash.proofs.Laws.{shaken}
+use borrow.Author.Needs.{needs}
+use Rattle.hash.proofs.shake256.digest.Statement.{statement}
+use Rattle.hash.proofs.shake256.digest.Tie as tie
+
+returns : tie.Need-returns
+returns c = rw shaken (cc)
+
+pub digest-spec : {M : Type 1} → statement M
+digest-spec =
+    tie.close (tie.spec (λ c κs. search needs) (λ c κs. search needs) (λ c κs. search needs) (λ c. search needs) returns)

@@ -1,0 +1,15 @@
+use Prim.Native.Nat.{_*_, _%_}
+use native.Mathlib.Omega.{arith}
+use Rattle.hash.specs.Stream.{mixed, close}
+use Rattle.hash.proofs.Lanes.{shifted}
+use borrow.Author.Needs.{needs}
+use Rattle.hash.proofs.sponge.mix.Statement.{statement}
+use Rattle.hash.proofs.sponge.mix.Tie as tie
+
+returns : tie.Need-returns
+unfolding mixed
+returns c = rw (shifted (c .before .args .b) (8 * (c .before .args .at % 8)) (omega arith) (omega arith))
+
+pub mix-spec : {M : Type 1} → statement M
+mix-spec =
+    tie.close (tie.spec (λ c. search needs) (λ c. search needs) (λ c. search needs) (λ c. search needs) (λ c. search needs) (λ c. search needs) returns)
