@@ -50,7 +50,8 @@ past-six (suc (suc (suc (suc (suc (suc (suc y))))))) p0 p1 p2 p3 p4 p5 p6 = omeg
 
 -- What was made for a type below 7 is the address of its place.
 module _ (y l t a b c : ℕ) (h : y < 7) where
-  pub made-is : {r : Made} {x : Address} → r ≡ Is x → made r ≡ addressAt y l t a b c → bytesOf x ≡ address (placeAt y l t a b c)
+  pub made-is : {r : Made} {x : Address} → r ≡ Is x → made r ≡ addressAt y l t a b c
+      → bytesOf x ≡ address (placeAt y l t a b c)
   made-is e q = let k = addressAt-known y l t a b c h in cc
 
   pub never-refused : {r : Made} → r ≡ Refused → made r ≡ addressAt y l t a b c → ⊥

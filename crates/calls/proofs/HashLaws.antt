@@ -3,7 +3,8 @@
 use mathlib.Core.Path.{_≡_, sym, ap, _∙_}
 use mathlib.Core.List.{List, _++_, append-assoc}
 use Prim.Native.Nat.{ℕ}
-use lib.ListN.{length}
+use lib.ListN.{length, take}
+use Rattle.lists.proofs.Parts.{front-part}
 use Rattle.hash.specs.Shake.{rate256, shake256}
 use Rattle.hash.specs.Stream.{Sponge, empty, feed, finish, draw}
 use Rattle.hash.proofs.Laws.{shaken, feed-append}
@@ -32,3 +33,8 @@ pub four-joined : (a b c d : Bytes) (n : ℕ) {s t u : Sponge} {y : Bytes} → s
 four-joined a b c d n p q r e =
     drawn-is (((a ++ b) ++ c) ++ d) n (fed-more ((a ++ b) ++ c) d (fed-more (a ++ b) c p q) r) e
     ∙ ap (λ (m : Bytes). shake256 m n) (simp append-assoc)
+
+-- A front part that was lent to be filled holds the first bytes drawn.
+pub front-drawn : (n : ℕ) (k : Sponge) {m : ℕ} {ys : Bytes} (rest : Bytes) → ys ≡ draw rate256 m (finish rate256 k)
+    → length ys ≡ m → m ≡ n → take n (ys ++ rest) ≡ draw rate256 n (finish rate256 k)
+front-drawn n k rest e l h = front-part (λ (m : ℕ). draw rate256 m (finish rate256 k)) n rest e l h

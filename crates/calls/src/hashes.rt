@@ -39,7 +39,8 @@ fn end(s: &mut [u64; 25], at: usize, out: &mut [u8])
 // F in place.
 pub fn f_in(kit: Kit, seed: &[u8], adrs: Address, io: &mut [u8])
     requires { ⌜ length (now io) ≡ kit .n ⌝ }
-    ensures { λ _. ⌜ now (io .exit) ≡ familyOf kit .hash Function.F (now (seed .entry)) (bytesOf adrs) (now (io .entry)) ⌝ }
+    ensures { λ _. ⌜ now (io .exit)
+        ≡ familyOf kit .hash Function.F (now (seed .entry)) (bytesOf adrs) (now (io .entry)) ⌝ }
 {
     let b = address_bytes(adrs);
     let mut s = [0u64; 25];
@@ -63,7 +64,8 @@ fn call(seed: &[u8], adrs: Address, input: &[u8], out: &mut [u8])
 // T of joined values.
 pub fn t_in(kit: Kit, seed: &[u8], adrs: Address, input: &[u8], out: &mut [u8])
     requires { ⌜ length (now out) ≡ kit .n ⌝ }
-    ensures { λ _. ⌜ now (out .exit) ≡ familyOf kit .hash Function.T (now (seed .entry)) (bytesOf adrs) (now (input .entry)) ⌝ }
+    ensures { λ _. ⌜ now (out .exit)
+        ≡ familyOf kit .hash Function.T (now (seed .entry)) (bytesOf adrs) (now (input .entry)) ⌝ }
 {
     call(seed, adrs, input, out);
 }

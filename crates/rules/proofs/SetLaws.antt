@@ -58,7 +58,8 @@ found number (q ∷ rs) r t e =
     here false h e′ later = later e′
 
 -- Past a row of another number the search goes on, and past the last there is none.
-pub find-next : (number : ℕ) (q : Row) (rs : List Row) → (number ≡ q .number → ⊥) → find number (q ∷ rs) ≡ find number rs
+pub find-next : (number : ℕ) (q : Row) (rs : List Row) → (number ≡ q .number → ⊥)
+    → find number (q ∷ rs) ≡ find number rs
 unfolding find
 find-next number q rs other = by-test (eqb number (q .number)) refl
   where

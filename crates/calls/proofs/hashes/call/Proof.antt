@@ -11,11 +11,12 @@ use Rattle.calls.proofs.hashes.call.Tie as tie
 
 returns : tie.Need-returns
 returns c =
-    let s = c .before .before .before .before .before .before .before .before .before .before .before .before .before .before in
+    let late = c .before .before .before .before .before .before .before in
+    let s = late .before .before .before .before .before .before .before in
     let seed = s .args .seed .now in
     let x = s .args .input .now in
-    let bytes = c .before .before .before .before .before .before .before .before .before .before .address-bytes in
-    three-joined seed (bytes .result) x _ (c .before .before .before .before .before .before .before .absorb-two .ensures)
+    let bytes = late .before .before .before .address-bytes in
+    three-joined seed (bytes .result) x _ (late .absorb-two .ensures)
     (c .before .before .before .before .before .absorb .ensures) (c .before .before .end .ensures)
     ∙ ap (λ b. shake256 (seed ++ (b ++ x)) (length (s .args .out .now))) (bytes .ensures)
 

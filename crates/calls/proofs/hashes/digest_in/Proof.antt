@@ -12,14 +12,16 @@ use Rattle.calls.proofs.hashes.digest_in.Tie as tie
 returns : tie.Need-returns
 unfolding family
 returns c =
-    let s = c .before .before .before .before .before .before .before .before .before .before .before .before .before .before .before .before .before in
+    let late = c .before .before .before .before .before .before .before in
+    let s = late .before .before .before .before .before .before .before .before .before .before in
     let a = s .args in
     let x = a .before .now ++ a .message .now in
-    four-joined (a .r .now) (a .seed .now) (a .root .now) x _ (c .before .before .before .before .before .before .before .before .before .absorb-two .ensures)
-    (c .before .before .before .before .before .before .before .absorb .ensures) (c .before .before .before .before .before .absorb-two2 .ensures) (c .before .before .end .ensures)
+    four-joined (a .r .now) (a .seed .now) (a .root .now) x _
+    (late .before .before .absorb-two .ensures) (late .absorb .ensures) (c .before .before .before .before .before .absorb-two2 .ensures) (c .before .before .end .ensures)
     ∙ ap (λ n. shake256 (a .r .now ++ (a .seed .now ++ (a .root .now ++ x))) n) (s .pre)
 
 pub digest-in-spec : {M : Type 1} → statement M
 digest-in-spec =
     tie.close
-    (tie.spec (λ c κs. search needs) (λ c κs. search needs) (λ c κs. search needs) (λ c κs. search needs) (λ c. search needs) returns)
+    (tie.spec (λ c κs. search needs) (λ c κs. search needs) (λ c κs. search needs) (λ c κs. search needs)
+    (λ c. search needs) returns)

@@ -1,6 +1,6 @@
 -- `f_in` is F of public seed, address and input: they are fed one after the other.
 -- Assumes nothing.
-use mathlib.Core.Path.{_≡_, refl, ap₂, _∙_}
+use mathlib.Core.Path.{_≡_, ap₂, _∙_}
 use mathlib.Core.List.{_++_}
 use borrow.Author.Needs.{needs}
 use Rattle.hash.specs.Shake.{shake256}
@@ -12,12 +12,14 @@ use Rattle.calls.proofs.hashes.f_in.Tie as tie
 returns : tie.Need-returns
 unfolding family
 returns c =
-    let s = c .before .before .before .before .before .before .before .before .before .before .before .before .before .before in
+    let late = c .before .before .before .before .before .before .before in
+    let s = late .before .before .before .before .before .before .before in
     let seed = s .args .seed .now in
     let x = s .args .io .now in
-    three-joined seed (c .before .before .before .before .before .before .before .before .before .before .before .address-bytes .result) x _ (c .before .before .before .before .before .before .before .before .absorb-two .ensures)
+    let bytes = late .before .before .before .before .address-bytes in
+    three-joined seed (bytes .result) x _ (late .before .absorb-two .ensures)
     (c .before .before .before .before .before .absorb .ensures) (c .before .before .end .ensures)
-    ∙ ap₂ (λ b n. shake256 (seed ++ (b ++ x)) n) (c .before .before .before .before .before .before .before .before .before .before .before .address-bytes .ensures) (s .pre)
+    ∙ ap₂ (λ b n. shake256 (seed ++ (b ++ x)) n) (bytes .ensures) (s .pre)
 
 pub f-in-spec : {M : Type 1} → statement M
 f-in-spec =

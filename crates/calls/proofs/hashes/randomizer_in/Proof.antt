@@ -12,10 +12,11 @@ use Rattle.calls.proofs.hashes.randomizer_in.Tie as tie
 returns : tie.Need-returns
 unfolding family
 returns c =
-    let s = c .before .before .before .before .before .before .before .before .before .before .before .before .before .before in
+    let late = c .before .before .before .before .before .before .before in
+    let s = late .before .before .before .before .before .before .before in
     let a = s .args in
     let x = a .before .now ++ a .message .now in
-    three-joined (a .prf .now) (a .mixed .now) x _ (c .before .before .before .before .before .before .before .absorb-two .ensures)
+    three-joined (a .prf .now) (a .mixed .now) x _ (late .absorb-two .ensures)
     (c .before .before .before .before .before .absorb-two2 .ensures) (c .before .before .end .ensures)
     ∙ ap (λ n. shake256 (a .prf .now ++ (a .mixed .now ++ x)) n) (s .pre)
 

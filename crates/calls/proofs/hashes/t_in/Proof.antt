@@ -12,7 +12,8 @@ use Rattle.calls.proofs.hashes.t_in.Tie as tie
 returns : tie.Need-returns
 unfolding family
 returns c =
-    let s = c .before .before .before .before .before .before .before in
+    let late = c .before .before .before .before .before .before .before in
+    let s = late in
     let a = s .args in
     c .before .before .call .ensures
     ∙ ap (λ n. shake256 (a .seed .now ++ (bytesOf (a .adrs) ++ a .input .now)) n) (s .pre)
