@@ -3,3 +3,5 @@ pub mod Parts
 pub mod Numbers
 pub mod Below
 pub mod Xor
+pub mod Bits
+pub mod Filling

@@ -1,4 +1,5 @@
 pub mod DigitLaws
+pub mod ReadLaws
 pub mod ChecksumLaws
 pub mod FindingLaws
 pub mod ChainLaws

@@ -1,0 +1,2 @@
+-- Laws on plain values that the code's proofs apply.
+pub mod Laws
