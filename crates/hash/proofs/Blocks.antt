@@ -1,12 +1,13 @@
--- The byte stream is FIPS 202's sponge by blocks: eight bytes are a lane, a rate's lanes a block, and a turn after each block
--- is its permutation. By induction on the lanes of a block and on the blocks.
+-- The byte stream is FIPS 202's sponge by blocks: eight bytes are a lane, a rate's lanes a block, and a turn after
+-- each block is its permutation. By induction on the lanes of a block and on the blocks.
 use mathlib.Core.Path.{_≡_, refl, sym, ap, ap₂, _∙_, subst⁻¹}
 use Prim.Native.Nat.{ℕ, zero, suc, _+_, _-_, _*_, _/_, _%_, _^_, _<_, _≤_}
 use mathlib.Core.List.{List, [], _∷_, _++_}
 use native.Mathlib.Omega.{arith}
 use native.Mathlib.Nat.{add-zero, zero-add, zero-mul, one-mul, suc-mul, mul-div-cancel, div-add-mod', mod-lt}
 use lib.Bits.{bitXor, xor-zero-r}
-use lib.ListN.{getD, length, set, take, drop, replicate, length-append, length-take, length-drop, length-map, take-append-drop}
+use lib.ListN.{getD, length, set, take, drop, replicate, length-append, length-take, length-drop, length-map}
+use lib.ListN.{take-append-drop}
 use lib.Seq.{set-append-seam, getD-append-seam, append-snoc, take-append-le, drop-append-le, take-append-add}
 use Rattle.lists.specs.Below.{Below}
 use Rattle.lists.proofs.Below.{below-take, below-drop, below-append}
@@ -15,9 +16,11 @@ use Rattle.hash.specs.Shake.{suffix}
 use Rattle.hash.specs.Sponge.{digits, number, spread, gather, padded, _⊕_, absorb, squeeze, keccak}
 use Rattle.hash.specs.Stream.{Sponge, sponge, turn, feed, empty, finish, draw}
 use Rattle.hash.proofs.Lanes.{lane-in, lane-out}
-use Rattle.hash.proofs.Pad.{low, padding, length-padding, below-padding, below-low, feed-low, finished, padded-bytes}
+use Rattle.hash.proofs.Pad.{low, padding, length-padding, below-padding, below-low, feed-low, finished}
+use Rattle.hash.proofs.Pad.{padded-bytes}
 use Rattle.hash.proofs.Rounds.{length-keccak-f}
-use Rattle.hash.proofs.Stream.{turn-no, turn-yes, feed-append, turn-feed, draw-add, drawn-in, draw-turn, draw-front}
+use Rattle.hash.proofs.Stream.{turn-no, turn-yes, feed-append, turn-feed, draw-add, drawn-in, draw-turn}
+use Rattle.hash.proofs.Stream.{draw-front}
 
 -- ---- zeros add nothing
 
@@ -74,7 +77,8 @@ lane-behind r f s a b hb hl hr =
     ∙ ap₂ sponge (set-append-seam f a s v ∙ sym (append-snoc f v s)) n
 
 -- the L lanes behind f take eight bytes each
-lanes-behind : (r L : ℕ) (f s b : List ℕ) (z : ℕ) → Below 256 b → length b ≡ 8 * L → L ≤ length s → 8 * (length f + L) ≤ r
+lanes-behind : (r L : ℕ) (f s b : List ℕ) (z : ℕ) → Below 256 b → length b ≡ 8 * L → L ≤ length s
+    → 8 * (length f + L) ≤ r
     → feed r (sponge (f ++ s) (8 * length f)) b
     ≡ sponge (f ++ (s ⊕ gather 8 8 (length s) (b ++ zeros z))) (8 * (length f + L))
 unfolding feed
@@ -96,7 +100,8 @@ lanes-behind r (suc L) f (a ∷ s) b z hb hl hs hr =
     ∙ ap (λ (q : Sponge). feed r q d) (lane-behind r f s a t (below-take 256 8 b (omega arith) hb) lt (omega arith))
     ∙ lanes-behind r L g s d z (below-drop 256 8 b hb) ld (omega arith) (omega arith)
     ∙ ap₂ sponge
-    (append-snoc f v (s ⊕ gather 8 8 (length s) (d ++ zeros z)) ∙ ap (λ (l : List ℕ). f ++ l) (sym (first-lane a s b z (omega arith))))
+    (append-snoc f v (s ⊕ gather 8 8 (length s) (d ++ zeros z))
+    ∙ ap (λ (l : List ℕ). f ++ l) (sym (first-lane a s b z (omega arith))))
     n
 
 -- ---- blocks come out
@@ -119,9 +124,11 @@ lanes-out r (suc L) f (a ∷ s) hs hr =
     (lane-out r (f ++ a ∷ s) (8 * length f) (omega arith) (omega arith)
     ∙ ap (λ (x : ℕ). digits 8 8 (getD (f ++ a ∷ s) x 0)) j
     ∙ ap (digits 8 8) (getD-append-seam f a s 0))
-    (ap (draw r (8 * L)) (drawn-in r 8 (f ++ a ∷ s) (8 * length f) (omega arith) ∙ ap₂ sponge (sym (append-snoc f a s)) n)
+    (ap (draw r (8 * L))
+    (drawn-in r 8 (f ++ a ∷ s) (8 * length f) (omega arith) ∙ ap₂ sponge (sym (append-snoc f a s)) n)
     ∙ lanes-out r L g s (omega arith) (omega arith))
-    ∙ sym (ap (λ (x : ℕ). take x (digits 8 8 a ++ spread 8 8 s)) e ∙ take-append-add (digits 8 8 a) (spread 8 8 s) (8 * L))
+    ∙ sym (ap (λ (x : ℕ). take x (digits 8 8 a ++ spread 8 8 s)) e
+    ∙ take-append-add (digits 8 8 a) (spread 8 8 s) (8 * L))
 
 -- ---- at a rate of L lanes
 
@@ -158,7 +165,8 @@ module _ (L : ℕ) (some : 0 < L) (all : L ≤ 25) where
   -- whole blocks drawn are squeezed
   squeezed : (n : ℕ) (s : List ℕ) → length s ≡ 25 → draw r (suc n * r) (sponge s 0) ≡ squeeze r n s
   unfolding squeeze
-  squeezed zero s hs = ap (λ (x : ℕ). draw r x (sponge s 0)) (one-mul r) ∙ lanes-out r L [] s (omega arith) (omega arith)
+  squeezed zero s hs =
+      ap (λ (x : ℕ). draw r x (sponge s 0)) (one-mul r) ∙ lanes-out r L [] s (omega arith) (omega arith)
   squeezed (suc n) s hs =
       let e : suc (suc n) * r ≡ r + suc n * r = omega (arith, suc-mul (suc n) r) in
       let h : 0 < suc n * r = omega (arith, suc-mul n r) in
@@ -204,10 +212,12 @@ module _ (L : ℕ) (some : 0 < L) (all : L ≤ 25) where
       let lp : length p ≡ c * r = ap length e ∙ padded-whole m in
       let lc : length p / r ≡ c = ap (λ (x : ℕ). x / r) lp ∙ mul-div-cancel c z in
       let s : List ℕ = absorb r (length p / r) p (zeros 25) in
-      let bp : Below 256 p = subst⁻¹ (Below 256) e (below-append 256 (low m) (padding q) (below-low m) (below-padding q)) in
+      let b : Below 256 (low m ++ padding q) = below-append 256 (low m) (padding q) (below-low m) (below-padding q) in
       let hn : n ≤ suc k * r = omega (arith, div-add-mod' (n - 1) r, mod-lt (n - 1) z, suc-mul k r) in
-      sym (ap (draw r n) (finished r (omega arith, z, omega arith) m ∙ sym (feed-low r m (padding q) empty) ∙ ap (feed r empty) (sym e))
+      sym (ap (draw r n) (finished r (omega arith, z, omega arith) m)
+      ∙ ap (draw r n) (sym (feed-low r m (padding q) empty) ∙ ap (feed r empty) (sym e))
       ∙ sym (draw-turn r z n (feed r empty p) (omega arith))
-      ∙ ap (draw r n) (absorbed (length p / r) p (zeros 25) refl bp (lp ∙ ap (λ (x : ℕ). x * r) (sym lc)))
+      ∙ ap (draw r n)
+      (absorbed (length p / r) p (zeros 25) refl (subst⁻¹ (Below 256) e b) (lp ∙ ap (λ (x : ℕ). x * r) (sym lc)))
       ∙ draw-front r n (suc k * r) (sponge s 0) hn
       ∙ ap (take n) (squeezed k s (length-absorb (length p / r) p (zeros 25) refl)))

@@ -1,9 +1,11 @@
--- Bytes that go into one lane, or come out of it, together: ⊕ is associative, and bytes at different places don't overlap.
+-- Bytes that go into one lane, or come out of it, together: ⊕ is associative, and bytes at different places don't
+-- overlap.
 use mathlib.Core.Path.{_≡_, refl, sym, ap, ap₂, _∙_, subst}
 use Prim.Native.Nat.{ℕ, zero, suc, _+_, _-_, _*_, _/_, _%_, _^_, _<_, _≤_, min}
 use mathlib.Core.List.{List, [], _∷_, _++_, append-assoc}
 use native.Mathlib.Omega.{arith}
-use native.Mathlib.Nat.{mul-lt-mul-of-pos-right, mul-le-mul-left, mul-assoc, mul-comm, add-mul, add-comm, add-zero, zero-mul, mul-one, div-one, lt-of-not-le, lt-of-lt-of-le, mod-eq-of-lt}
+use native.Mathlib.Nat.{mul-lt-mul-of-pos-right, mul-le-mul-left, mul-assoc, mul-comm, add-mul, add-comm, add-zero}
+use native.Mathlib.Nat.{zero-mul, mul-one, div-one, lt-of-not-le, lt-of-lt-of-le, mod-eq-of-lt}
 use native.Mathlib.Decide.{decLe}
 use lib.ListN.{getD, length, take, drop, set, length-take}
 use lib.Seq.{take-suc-set, drop-cons, set-set, set-out, set-getD, getD-set-same}
@@ -45,11 +47,13 @@ set-twice s j a b =
     ∙ elim (decLe (length s) j) [
       | yes h ↦ set-out s j _ h ∙ sym (set-out s j _ h)
       | no h ↦ ap (set s j)
-          (ap (λ (y : ℕ). bitXor y b) (getD-set-same s j (bitXor (getD s j 0) a) 0 (lt-of-not-le h)) ∙ xor-assoc (getD s j 0) a b)
+          (ap (λ (y : ℕ). bitXor y b) (getD-set-same s j (bitXor (getD s j 0) a) 0 (lt-of-not-le h))
+          ∙ xor-assoc (getD s j 0) a b)
     ]
 
 -- a byte goes in below the rate
-pub byte-in : (r : ℕ) (s : List ℕ) (at b : ℕ) → at < r → b < 256 → put r (sponge s at) b ≡ sponge (mixed s at b) (at + 1)
+pub byte-in : (r : ℕ) (s : List ℕ) (at b : ℕ) → at < r → b < 256
+    → put r (sponge s at) b ≡ sponge (mixed s at b) (at + 1)
 unfolding put step
 byte-in r s at b h hb =
     ap (step (b % 256)) (turn-no r (sponge s at) h) ∙ ap (λ (x : ℕ). step x (sponge s at)) (mod-eq-of-lt hb)
@@ -112,7 +116,8 @@ bytes-out r j hj s (suc n) o ho =
     ∙ ap (digits 8 n) (ap (λ (x : ℕ). getD s j 0 / 2 ^ x) g ∙ sym (shr-shr (getD s j 0) (8 * o) 8)))
 
 -- eight bytes come out of a lane
-pub lane-out : (r : ℕ) (s : List ℕ) (at : ℕ) → at % 8 ≡ 0 → at + 8 ≤ r → draw r 8 (sponge s at) ≡ digits 8 8 (getD s (at / 8) 0)
+pub lane-out : (r : ℕ) (s : List ℕ) (at : ℕ) → at % 8 ≡ 0 → at + 8 ≤ r
+    → draw r 8 (sponge s at) ≡ digits 8 8 (getD s (at / 8) 0)
 lane-out r s at ha hr =
     let e : 8 * (at / 8) + 0 ≡ at = omega arith in
     ap (λ (p : ℕ). draw r 8 (sponge s p)) (sym e)
@@ -125,7 +130,7 @@ unfolding draw
 byte-out r s at h = draw-step r s at 0 h
 
 -- a number of bytes is below its power
-pub number-lt : (p : List ℕ) → Below 256 p → number 8 p < 2 ^ (8 * length p)
+number-lt : (p : List ℕ) → Below 256 p → number 8 p < 2 ^ (8 * length p)
 unfolding number
 number-lt [] h = pow-pos 0
 number-lt (b ∷ p) h =
@@ -156,7 +161,8 @@ number-turn m i k hk h8 hi =
 
 -- a store of a lane's next byte leaves the rest of its bytes
 pub store-next : (l : List ℕ) (i k w : ℕ) → i + k < length l → k < 8
-    → take (i + (k + 1)) (set l (i + k) (w % 256)) ++ digits 8 (8 - (k + 1)) (w / 256) ≡ take (i + k) l ++ digits 8 (8 - k) w
+    → take (i + (k + 1)) (set l (i + k) (w % 256)) ++ digits 8 (8 - (k + 1)) (w / 256)
+    ≡ take (i + k) l ++ digits 8 (8 - k) w
 unfolding digits
 store-next l i k w h hk =
     let e : i + (k + 1) ≡ suc (i + k) = omega arith in

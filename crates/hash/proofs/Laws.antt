@@ -1,5 +1,5 @@
--- The laws for callers: SHAKE256 is what is drawn from a sponge that was fed the message and finished; pieces join, and what
--- is drawn splits. Each is an instance, at SHAKE256's 17 lanes, of the stream's laws.
+-- The laws for callers: SHAKE256 is what is drawn from a sponge that was fed the message and finished; pieces join,
+-- and what is drawn splits. Each is an instance, at SHAKE256's 17 lanes, of the stream's laws.
 use mathlib.Core.Path.{_≡_, refl, sym}
 use Prim.Native.Nat.{ℕ, _+_, _≤_}
 use mathlib.Core.List.{List, [], _++_}
@@ -35,7 +35,8 @@ drawn-add i n k = Stream.drawn-add rate256 i n k
 
 -- a shorter output is the front of a longer one
 pub shake256-front : (m : List ℕ) (n k : ℕ) → n ≤ k → take n (shake256 m k) ≡ shake256 m n
-shake256-front m n k h = rw (shaken, shaken) (sym (Stream.draw-front rate256 n k (finish rate256 (feed rate256 empty m)) h))
+shake256-front m n k h =
+    rw (shaken m k, shaken m n) (sym (Stream.draw-front rate256 n k (finish rate256 (feed rate256 empty m)) h))
 
 -- n bytes are asked for and n come
 pub length-shake256 : (m : List ℕ) (n : ℕ) → length (shake256 m n) ≡ n

@@ -5,4 +5,3 @@ pub mod Laws
 pub mod Pad
 pub mod Rounds
 pub mod Stream
-pub mod Tables

@@ -1,10 +1,11 @@
--- To finish the stream is to feed the bytes of 1111 and pad10*1: the bits of the padding, gathered to bytes, are a byte 0x1f,
--- zeros and a byte 0x80 up to the block's end, or 0x9f alone.
+-- To finish the stream is to feed the bytes of 1111 and pad10*1: the bits of the padding, gathered to bytes, are a
+-- byte 0x1f, zeros and a byte 0x80 up to the block's end, or 0x9f alone.
 use mathlib.Core.Path.{_≡_, refl, sym, ap, ap₂, _∙_, subst}
 use Prim.Native.Nat.{ℕ, zero, suc, _+_, _-_, _*_, _/_, _%_, _^_, _<_, _≤_}
 use mathlib.Core.List.{List, [], _∷_, _++_, map, append-assoc}
 use native.Mathlib.Omega.{arith}
-use native.Mathlib.Nat.{zero-mul, add-zero, zero-add, lt-of-not-le, mod-eq-of-lt, mod-self, mod-lt, mod-mod, mod-add-mod, div-add-mod'}
+use native.Mathlib.Nat.{zero-mul, add-zero, zero-add, lt-of-not-le, mod-eq-of-lt, mod-self, mod-lt, mod-mod}
+use native.Mathlib.Nat.{mod-add-mod, div-add-mod'}
 use native.Mathlib.Decide.{decLe}
 use lib.Arith.{digits-mod}
 use lib.ListN.{getD, length, set, replicate, length-append, length-replicate, replicate-append-replicate, List·getD-map}
@@ -123,7 +124,8 @@ abbrev pub low : List ℕ → List ℕ
 low = map (λ x. x % 256)
 
 pub below-low : (m : List ℕ) → Below 256 (low m)
-below-low m i = subst (λ (x : ℕ). x < 256) (sym (List·getD-map (λ (x : ℕ). x % 256) m i 0)) (mod-lt (getD m i 0) (omega arith))
+below-low m i =
+    subst (λ (x : ℕ). x < 256) (sym (List·getD-map (λ (x : ℕ). x % 256) m i 0)) (mod-lt (getD m i 0) (omega arith))
 
 -- only the low bytes of a message go in
 pub feed-low : (r : ℕ) (m p : List ℕ) (k : Sponge) → feed r k (low m ++ p) ≡ feed r k (m ++ p)

@@ -1,4 +1,5 @@
--- What the code's lanes and shifts are in the definitions' words: places by their column and row, a rotation by its two parts.
+-- What the code's lanes and shifts are in the definitions' words: places by their column and row, a rotation by its
+-- two parts.
 use mathlib.Core.Path.{_≡_, sym, ap, ap₂, _∙_}
 use Prim.Native.Nat.{ℕ, zero, suc, _+_, _-_, _*_, _/_, _%_, _^_, _≤_, _<_}
 use mathlib.Core.List.{List, [], _∷_}
@@ -7,11 +8,13 @@ use native.Mathlib.Numerals.{add-one}
 use native.Mathlib.Nat.{mul-one, div-one, mod-eq-of-lt, mul-mod-left, add-zero}
 use lib.Arith.{mod-mul}
 use lib.Bits.{bitOr, bitXor, bitAnd, or-self, or-shifted}
-use lib.ListN.{getD, length, length-set}
+use lib.ListN.{getD, length, set, length-set}
 use lib.Pow.{pow-pos, pow-add, shl-shr, shr-lt}
-use Rattle.hash.specs.Constants.{constant}
+use Rattle.lists.specs.Below.{Below}
+use Rattle.lists.proofs.Below.{below-test}
+use Rattle.hash.specs.Constants.{walk, offsets, constant}
 use Rattle.hash.specs.Keccak.{rotated, inverted, lane, each, state, C, D, θ, ρ, π, χ, ι, round, rounds, keccak-f}
-use Rattle.hash.proofs.Each.{length-each}
+use Rattle.hash.proofs.Each.{length-each, Filled, filled-next}
 
 -- the lane at place i is that of its column and row
 pub lane-place : (s : List ℕ) (i : ℕ) → i < 25 → lane s (i % 5) (i / 5) ≡ getD s i 0
@@ -23,6 +26,11 @@ lane-place s i h =
 -- χ's lane
 abbrev pub chosen : List ℕ → ℕ → ℕ → ℕ
 chosen s x y = bitXor (lane s x y) (bitAnd (inverted (lane s (x + 1) y)) (lane s (x + 2) y))
+
+-- each offset is less than a lane's width
+pub offsets-below : Below 64 offsets
+unfolding offsets walk
+offsets-below = below-test 64 offsets (omega arith) tt
 
 -- one round more
 pub rounds-next : (n : ℕ) (s : List ℕ) → rounds (n + 1) s ≡ round (constant n) (rounds n s)
@@ -78,18 +86,20 @@ column-mod s x =
     rw e
 
 -- what θ adds to the five columns, from their parities and these rotated by one
-pub effects-are : (s : List ℕ) (c₀ c₁ c₂ c₃ c₄ r₀ r₁ r₂ r₃ r₄ : ℕ) → c₀ ≡ C s 0 → c₁ ≡ C s 1 → c₂ ≡ C s 2 → c₃ ≡ C s 3 → c₄ ≡ C s 4
+pub effects-are : (s : List ℕ) (c₀ c₁ c₂ c₃ c₄ r₀ r₁ r₂ r₃ r₄ : ℕ)
+    → c₀ ≡ C s 0 → c₁ ≡ C s 1 → c₂ ≡ C s 2 → c₃ ≡ C s 3 → c₄ ≡ C s 4
     → r₀ ≡ rotated 1 c₀ → r₁ ≡ rotated 1 c₁ → r₂ ≡ rotated 1 c₂ → r₃ ≡ rotated 1 c₃ → r₄ ≡ rotated 1 c₄
     → bitXor c₄ r₁ ∷ bitXor c₀ r₂ ∷ bitXor c₁ r₃ ∷ bitXor c₂ r₄ ∷ bitXor c₃ r₀ ∷ [] ≡ each (D s) 0 5
 unfolding each D
 effects-are s c₀ c₁ c₂ c₃ c₄ r₀ r₁ r₂ r₃ r₄ p₀ p₁ p₂ p₃ p₄ q₀ q₁ q₂ q₃ q₄ =
     cc (column-mod s 5, column-mod s 6, column-mod s 7, column-mod s 8)
 
--- a lane of χ, from the places of the lane and of the two after it in its row
-pub chosen-are : (s : List ℕ) (i j k : ℕ) → i < 25 → 5 * (i / 5) + (i % 5 + 1) % 5 ≡ j → 5 * (i / 5) + (i % 5 + 2) % 5 ≡ k
-    → bitXor (getD s i 0) (bitAnd (inverted (getD s j 0)) (getD s k 0)) ≡ chosen s (i % 5) (i / 5)
+-- a store of χ's lane at i, from the lane and the two after it in its row, at j and k
+pub chosen-next : (s b : List ℕ) (i j k n : ℕ) → Filled (chosen s) b i
+    → (i < 25) × (5 * (i / 5) + (i % 5 + 1) % 5 ≡ j) × (5 * (i / 5) + (i % 5 + 2) % 5 ≡ k) × (i + 1 ≡ n)
+    → Filled (chosen s) (set b i (bitXor (getD s i 0) (bitAnd (inverted (getD s j 0)) (getD s k 0)))) n
 unfolding lane
-chosen-are s i j k h ej ek =
+chosen-next s b i j k n h p =
     let r : i / 5 % 5 ≡ i / 5 = omega arith in
     let e : 5 * (i / 5) + i % 5 % 5 ≡ i = omega arith in
-    rw (r, e, ej, ek)
+    filled-next (chosen s) b i _ n h (p .0) (rw (r, e, p .1, p .2)) (p .3)

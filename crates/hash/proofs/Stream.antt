@@ -1,6 +1,6 @@
--- The laws of the byte stream at any rate r: bytes fed or drawn in pieces are those of the whole, and an early turn is none
--- too many. By induction on the bytes.
-use mathlib.Core.Path.{_≡_, refl, sym, ap, _∙_}
+-- The laws of the byte stream at any rate r: bytes fed or drawn in pieces are those of the whole, and an early turn
+-- is none too many. By induction on the bytes.
+use mathlib.Core.Path.{_≡_, refl, sym, ap, ap₂, _∙_}
 use Prim.Native.Nat.{ℕ, zero, suc, _+_, _-_, _%_, _≤_, _<_}
 use mathlib.Core.List.{List, [], _∷_, _++_}
 use native.Mathlib.Omega.{arith}
@@ -39,7 +39,8 @@ module _ (r : ℕ) where
   feed-append k (x ∷ a) b = feed-append (put r k x) a b
 
   -- a message's next n bytes
-  feed-more : (k : Sponge) (m : List ℕ) (i n : ℕ) → feed r k (take (i + n) m) ≡ feed r (feed r k (take i m)) (take n (drop i m))
+  feed-more : (k : Sponge) (m : List ℕ) (i n : ℕ)
+      → feed r k (take (i + n) m) ≡ feed r (feed r k (take i m)) (take n (drop i m))
   feed-more k m i n = rw (take-add i n m) (feed-append k (take i m) (take n (drop i m)))
 
   -- a turn before some bytes changes nothing
@@ -55,10 +56,11 @@ module _ (r : ℕ) where
   turn-feed p k (b ∷ m) = ap (turn r) (feed-turn p k (b ∷ m) (omega arith))
 
   -- a turn and the next n bytes
-  pub feed-next : 0 < r → (k : Sponge) (m : List ℕ) (i n : ℕ) → 0 < n → i + n ≤ length m
-      → feed r (turn r (feed r k (take i m))) (take n (drop i m)) ≡ feed r k (take (i + n) m)
-  feed-next p k m i n hn hm =
-      feed-turn p (feed r k (take i m)) (take n (drop i m)) (simp (length-take, length-drop) (omega arith))
+  pub feed-next : {x y z : Sponge} → 0 < r → (k : Sponge) (m : List ℕ) (i n : ℕ) → 0 < n → i + n ≤ length m
+      → x ≡ feed r k (take i m) → y ≡ turn r x → z ≡ feed r y (take n (drop i m)) → z ≡ feed r k (take (i + n) m)
+  feed-next p k m i n hn hm ex ey ez =
+      ez ∙ ap (λ (t : Sponge). feed r t (take n (drop i m))) (ey ∙ ap (turn r) ex)
+      ∙ feed-turn p (feed r k (take i m)) (take n (drop i m)) (simp (length-take, length-drop) (omega arith))
       ∙ sym (feed-more k m i n)
 
   drawn-turn : 0 < r → (n : ℕ) (k : Sponge) → 0 < n → drawn r n (turn r k) ≡ drawn r n k
@@ -95,19 +97,22 @@ module _ (r : ℕ) where
       ∙ ap (sponge s) e
 
   -- the place after the next n bytes, within the rate
-  pub drawn-next : 0 < r → (k : Sponge) (s : List ℕ) (p i n : ℕ) → 0 < n → p + n ≤ r → sponge s p ≡ turn r (drawn r i k)
-      → sponge s (p + n) ≡ drawn r (i + n) k
-  drawn-next q k s p i n hn hr e =
-      sym (drawn-in n s p hr) ∙ ap (drawn r n) e ∙ drawn-turn q n (drawn r i k) hn ∙ sym (drawn-add i n k)
+  pub drawn-next : {x : Sponge} → 0 < r → (k : Sponge) (s : List ℕ) (p i n : ℕ) → 0 < n → p + n ≤ r
+      → x ≡ drawn r i k → sponge s p ≡ turn r x → sponge s (p + n) ≡ drawn r (i + n) k
+  drawn-next q k s p i n hn hr ex ey =
+      sym (drawn-in n s p hr) ∙ ap (drawn r n) (ey ∙ ap (turn r) ex) ∙ drawn-turn q n (drawn r i k) hn
+      ∙ sym (drawn-add i n k)
 
   -- the next n bytes behind those before
-  pub draw-next : 0 < r → (k : Sponge) (s : List ℕ) (p i n : ℕ) → 0 < n → sponge s p ≡ turn r (drawn r i k)
-      → draw r i k ++ draw r n (sponge s p) ≡ draw r (i + n) k
-  draw-next q k s p i n hn e =
-      ap (λ (l : List ℕ). draw r i k ++ l) (ap (draw r n) e ∙ draw-turn q n (drawn r i k) hn) ∙ sym (draw-add i n k)
+  pub draw-next : {x y : Sponge} {a b : List ℕ} → 0 < r → (k : Sponge) (i n : ℕ) → 0 < n
+      → x ≡ drawn r i k → y ≡ turn r x → a ≡ draw r i k → b ≡ a ++ draw r n y → b ≡ draw r (i + n) k
+  draw-next q k i n hn ex ey ea eb =
+      eb ∙ ap₂ (λ (u v : List ℕ). u ++ v) ea (ap (draw r n) (ey ∙ ap (turn r) ex) ∙ draw-turn q n (drawn r i k) hn)
+      ∙ sym (draw-add i n k)
 
   -- below the rate the next byte is that at the place
-  pub draw-step : (s : List ℕ) (p n : ℕ) → p < r → draw r (suc n) (sponge s p) ≡ byteOf s p ∷ draw r n (sponge s (p + 1))
+  pub draw-step : (s : List ℕ) (p n : ℕ) → p < r
+      → draw r (suc n) (sponge s p) ≡ byteOf s p ∷ draw r n (sponge s (p + 1))
   unfolding draw past
   draw-step s p n h = ap (λ (k : Sponge). byteOf (k .lanes) (k .at) ∷ draw r n (past k)) (turn-no (sponge s p) h)
 
@@ -128,4 +133,5 @@ module _ (r : ℕ) where
   pub below-draw : (n : ℕ) (k : Sponge) → Below 256 (draw r n k)
   unfolding draw byteOf
   below-draw zero k = below-nil 256 (omega arith)
-  below-draw (suc n) k = below-cons 256 _ (draw r n (past (turn r k))) (mod-lt _ (omega arith)) (below-draw n (past (turn r k)))
+  below-draw (suc n) k =
+      below-cons 256 _ (draw r n (past (turn r k))) (mod-lt _ (omega arith)) (below-draw n (past (turn r k)))

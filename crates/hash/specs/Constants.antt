@@ -1,6 +1,7 @@
--- The offsets of ρ and the round constants of ι by the rules of FIPS 202 (3.2.2, algorithm 2; 3.2.5, algorithms 5 and 6).
+-- The offsets of ρ and the round constants of ι by the rules of FIPS 202 (3.2.2, algorithm 2; 3.2.5, algorithms 5
+-- and 6).
 use Prim.Native.Nat.{ℕ, zero, suc, _+_, _-_, _*_, _/_, _%_, _^_}
-use mathlib.Core.List.{List, [], _∷_}
+use mathlib.Core.List.{List}
 use lib.ListN.{set, replicate}
 use lib.Bits.{bitXor}
 
@@ -11,7 +12,6 @@ walk (suc n) t x y o = walk n (suc t) y ((2 * x + 3 * y) % 5) (set o (5 * y + x)
 
 -- how far ρ rotates the lane at column x and row y, at 5y + x: the walk starts at (1, 0) and never comes to (0, 0)
 unfoldable pub offsets : List ℕ
-unfolding walk
 offsets = walk 24 0 1 0 (replicate 25 0)
 
 -- the register R after t steps, R[0] its lowest bit: R becomes 0 ‖ R, and bit 8 is added to bits 0, 4, 5 and 6
@@ -19,16 +19,14 @@ unfoldable pub register : ℕ → ℕ
 register zero = 1
 register (suc t) = let r : ℕ = 2 * register t in bitXor (r % 256) (r / 256 * 0b0111_0001)
 
+-- the bit rc(t)
 unfoldable pub rc : ℕ → ℕ
-unfolding register
 rc t = register (t % 255) % 2
 
 -- the constant of round i: its bit 2^j - 1 is rc(j + 7i), for j from 0 to 6
 unfoldable pub constantBits : ℕ → ℕ → ℕ
-unfolding rc
 constantBits zero i = 0
 constantBits (suc j) i = constantBits j i + rc (j + 7 * i) * 2 ^ (2 ^ j - 1)
 
 unfoldable pub constant : ℕ → ℕ
-unfolding constantBits
 constant i = constantBits 7 i

@@ -1,4 +1,5 @@
--- KECCAK-f[1600] (FIPS 202, 3.2 to 3.4). A state is the list of its 25 lanes, numbers below 2^64; lane (x, y) is at 5y + x.
+-- KECCAK-f[1600] (FIPS 202, 3.2 to 3.4). A state is the list of its 25 lanes, numbers below 2^64; lane (x, y) is at
+-- 5y + x.
 use Prim.Native.Nat.{ℕ, zero, suc, _+_, _-_, _*_, _/_, _%_, _^_}
 use mathlib.Core.List.{List, [], _∷_}
 use lib.ListN.{getD, set}
@@ -36,30 +37,31 @@ D s x = bitXor (C s (x + 4)) (rotated 1 (C s (x + 1)))
 unfoldable pub θ : List ℕ → List ℕ
 θ s = state (λ x y. bitXor (lane s x y) (D s x))
 
--- ρ (algorithm 2)
+-- ρ (algorithm 2): each lane rotated by its offset
 unfoldable pub ρ : List ℕ → List ℕ
 ρ s = state (λ x y. rotated (lane offsets x y) (lane s x y))
 
--- π (algorithm 3)
+-- π (algorithm 3): the lane at (x, y) comes from (x + 3y, x)
 unfoldable pub π : List ℕ → List ℕ
 π s = state (λ x y. lane s (x + 3 * y) x)
 
--- χ (algorithm 4)
+-- χ (algorithm 4): each lane with the two after it in its row
 unfoldable pub χ : List ℕ → List ℕ
 χ s = state (λ x y. bitXor (lane s x y) (bitAnd (inverted (lane s (x + 1) y)) (lane s (x + 2) y)))
 
--- ι (algorithm 6) with the constant c
+-- ι (algorithm 6): the first lane with the round constant c
 unfoldable pub ι : ℕ → List ℕ → List ℕ
 ι c s = set s 0 (bitXor (getD s 0 0) c)
 
--- Rnd(A, i), with the constant of round i
+-- Rnd with the round constant c
 unfoldable pub round : ℕ → List ℕ → List ℕ
 round c s = ι c (χ (π (ρ (θ s))))
 
--- the first n rounds (algorithm 7)
+-- the first n rounds, each with its constant (algorithm 7)
 unfoldable pub rounds : ℕ → List ℕ → List ℕ
 rounds zero s = s
 rounds (suc n) s = round (constant n) (rounds n s)
 
+-- all 24
 unfoldable pub keccak-f : List ℕ → List ℕ
 keccak-f s = rounds 24 s

@@ -1,5 +1,5 @@
--- The sponge of KECCAK-f[1600] with pad10*1 (FIPS 202, sections 4 and 5; appendix B.1 for bits and bytes). The rate r is
--- in bytes; strings of bits and of bytes are lists, and a byte's or a lane's lowest part comes first.
+-- The sponge of KECCAK-f[1600] with pad10*1 (FIPS 202, sections 4 and 5; appendix B.1 for bits and bytes). The rate
+-- r is in bytes; strings of bits and of bytes are lists, and a byte's or a lane's lowest part comes first.
 use Prim.Native.Nat.{ℕ, zero, suc, _+_, _-_, _*_, _/_, _%_, _^_}
 use mathlib.Core.List.{List, [], _∷_, _++_}
 use lib.ListN.{length, take, drop, replicate}
@@ -16,15 +16,28 @@ unfoldable pub number : ℕ → List ℕ → ℕ
 number w [] = 0
 number w (d ∷ p) = d + 2 ^ w * number w p
 
--- the digits of each number of a list, n of w bits: with 1 and 8 the bits of bytes, with 8 and 8 the bytes of lanes
+-- the digits of each number of a list, n of w bits
 unfoldable pub spread : ℕ → ℕ → List ℕ → List ℕ
 spread w n [] = []
 spread w n (a ∷ s) = digits w n a ++ spread w n s
 
--- k numbers of n digits of w bits each, the other way round
+-- k numbers from their digits, n of w bits each
 unfoldable pub gather : ℕ → ℕ → ℕ → List ℕ → List ℕ
 gather w n zero p = []
 gather w n (suc k) p = number w (take n p) ∷ gather w n k (drop n p)
+
+-- bytes and their bits, lanes and their bytes
+abbrev pub bits : List ℕ → List ℕ
+bits m = spread 1 8 m
+
+abbrev pub bytes : ℕ → List ℕ → List ℕ
+bytes n p = gather 1 8 n p
+
+abbrev pub lanes : List ℕ → List ℕ
+lanes b = gather 8 8 25 b
+
+abbrev pub string : List ℕ → List ℕ
+string s = spread 8 8 s
 
 -- pad10*1(x, m) (5.1): 1, then (-m - 2) mod x times 0, then 1
 unfoldable pub pad : ℕ → ℕ → List ℕ
@@ -34,7 +47,7 @@ pad x m = 1 ∷ replicate ((x - (m + 2) % x) % x) 0 ++ 1 ∷ []
 unfoldable pub padded : ℕ → List ℕ → List ℕ
 padded r m =
     let p : List ℕ = m ++ pad (8 * r) (length m) in
-    gather 1 8 (length p / 8) p
+    bytes (length p / 8) p
 
 infixl 60 _⊕_
 -- two states added, lane by lane
@@ -46,15 +59,16 @@ unfoldable pub _⊕_ : List ℕ → List ℕ → List ℕ
 -- n blocks of p absorbed, one after the other, each with zeros for the capacity (algorithm 8, steps 5 and 6)
 unfoldable pub absorb : ℕ → ℕ → List ℕ → List ℕ → List ℕ
 absorb r zero p s = s
-absorb r (suc n) p s = absorb r n (drop r p) (keccak-f (s ⊕ gather 8 8 25 (take r p ++ replicate (200 - r) 0)))
+absorb r (suc n) p s = absorb r n (drop r p) (keccak-f (s ⊕ lanes (take r p ++ replicate (200 - r) 0)))
 
 -- a block squeezed, and n more (steps 7 to 10)
 unfoldable pub squeeze : ℕ → ℕ → List ℕ → List ℕ
-squeeze r zero s = take r (spread 8 8 s)
-squeeze r (suc n) s = take r (spread 8 8 s) ++ squeeze r n (keccak-f s)
+squeeze r zero s = take r (string s)
+squeeze r (suc n) s = take r (string s) ++ squeeze r n (keccak-f s)
 
--- n bytes of KECCAK[1600 - 8r] of the bytes m and the bits of the suffix (5.2)
+-- n bytes of KECCAK[1600 - 8r] of the bytes m and the bits of the suffix (5.2), from as many blocks as they take and at
+-- least one
 unfoldable pub keccak : ℕ → List ℕ → List ℕ → ℕ → List ℕ
 keccak r suffix m n =
-    let p : List ℕ = padded r (spread 1 8 m ++ suffix) in
+    let p : List ℕ = padded r (bits m ++ suffix) in
     take n (squeeze r ((n - 1) / r) (absorb r (length p / r) p (replicate 25 0)))

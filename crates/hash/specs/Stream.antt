@@ -1,5 +1,5 @@
--- The sponge of an extendable-output function as a stream of bytes, which the code follows: the lanes, and the place of the
--- next byte. That bytes fed, finished and drawn are FIPS 202's sponge is a law, `shaken`.
+-- The sponge of an extendable-output function as a stream of bytes, which the code follows: the lanes, and the place
+-- of the next byte. That bytes fed, finished and drawn are FIPS 202's sponge is a law, `shaken`.
 use Prim.Native.Nat.{ℕ, zero, suc, _+_, _-_, _*_, _/_, _%_, _^_, _≤_, _<_}
 use mathlib.Core.Path.{_≡_}
 use mathlib.Core.Bool.{cond}

@@ -1,9 +1,9 @@
 // KECCAK-f[1600] (FIPS 202, 3.2 to 3.4), plainly: a function for each step mapping, a loop over the 25 lanes in each.
 ghost use mathlib.Core.Path.{_≡_};
 ghost use Prim.Native.Nat.{_<_};
-ghost use lib.ListN.{length};
 ghost use Rattle.hash.specs.Keccak.{each, C, D, rotated, θ, ρ, π, χ, round as roundOf, keccak-f};
 
+// The offsets of ρ: that of the lane at column x and row y is at 5y + x.
 const OFFSETS: [u32; 25] = [
     0,
     1,
@@ -32,6 +32,7 @@ const OFFSETS: [u32; 25] = [
     14,
 ];
 
+// The round constants, which ι adds.
 const CONSTANTS: [u64; 24] = [
     0x0000000000000001,
     0x0000000000008082,
@@ -59,6 +60,7 @@ const CONSTANTS: [u64; 24] = [
     0x8000000080008008,
 ];
 
+// A lane rotated left by n; at n = 0 both shifts are by 0.
 fn rotate(a: u64, n: u32) -> u64
     requires { ⌜ n < 64 ⌝ }
     ensures { λ r. ⌜ r ≡ rotated n a ⌝ }
@@ -108,6 +110,7 @@ fn theta(a: &[u64; 25]) -> [u64; 25]
 fn rho(a: &[u64; 25]) -> [u64; 25]
     ensures { λ r. ⌜ r ≡ ρ (now (a .entry)) ⌝ }
 {
+    // A copy, since a constant indexed in a loop is laid on the stack anew at each turn.
     let offsets = OFFSETS;
     let mut b = [0u64; 25];
     let mut i: usize = 0;
@@ -118,6 +121,7 @@ fn rho(a: &[u64; 25]) -> [u64; 25]
     b
 }
 
+// Lane (x, y) comes from (x + 3y, x).
 fn pi(a: &[u64; 25]) -> [u64; 25]
     ensures { λ r. ⌜ r ≡ π (now (a .entry)) ⌝ }
 {
@@ -187,6 +191,7 @@ fn round(s: &mut [u64; 25], c: u64)
 pub fn permute(s: &mut [u64; 25])
     ensures { λ _. ⌜ now (s .exit) ≡ keccak-f (now (s .entry)) ⌝ }
 {
+    // A copy, as in `rho`.
     let constants = CONSTANTS;
     let mut i: usize = 0;
     while i < 24 {

@@ -1,27 +1,32 @@
-// SHAKE256 by pieces. Begin with 25 zero lanes and the place 0; absorb pieces, finish once, squeeze pieces. Each function
-// returns the place that the next one takes.
+// SHAKE256 by pieces. Begin with 25 zero lanes and the place 0; absorb pieces, finish once, squeeze pieces. Each
+// function returns the place that the next one takes.
 ghost use mathlib.Core.Path.{_≡_};
 ghost use lib.ListN.{length};
 ghost use Rattle.hash.specs.Shake.{rate256, shake256};
 ghost use Rattle.hash.specs.Stream.{sponge, feed, finish as finished, draw, drawn};
 use crate::sponge;
 
+// The rate in bytes: 1600 - 512 bits.
 const RATE: usize = 136;
 
+// Absorbs the bytes m.
 pub fn absorb(s: &mut [u64; 25], at: usize, m: &[u8]) -> usize
     ensures { λ r. ⌜ sponge (now (s .exit)) r ≡ feed rate256 (sponge (now (s .entry)) at) (now (m .entry)) ⌝ }
 {
     sponge::absorb(s, RATE, at, m)
 }
 
+// Ends the message.
 pub fn finish(s: &mut [u64; 25], at: usize) -> usize
     ensures { λ r. ⌜ sponge (now (s .exit)) r ≡ finished rate256 (sponge (now (s .entry)) at) ⌝ }
 {
     sponge::finish(s, RATE, at)
 }
 
+// Squeezes the next bytes into the whole of out.
 pub fn squeeze(s: &mut [u64; 25], at: usize, out: &mut [u8]) -> usize
-    ensures { λ r. ⌜ sponge (now (s .exit)) r ≡ drawn rate256 (length (now (out .entry))) (sponge (now (s .entry)) at) ⌝ }
+    ensures { λ r. ⌜ sponge (now (s .exit)) r
+        ≡ drawn rate256 (length (now (out .entry))) (sponge (now (s .entry)) at) ⌝ }
     ensures { λ r. ⌜ now (out .exit) ≡ draw rate256 (length (now (out .entry))) (sponge (now (s .entry)) at) ⌝ }
 {
     sponge::squeeze(s, RATE, at, out)

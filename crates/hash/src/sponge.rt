@@ -1,13 +1,14 @@
-// The sponge of an extendable-output function over any rate of whole lanes: the lanes are lent, and the place of the next
-// byte goes in and comes back. Whole lanes go in and out where the place is a lane's first.
+// The sponge of an extendable-output function over any rate of whole lanes: the lanes are lent, and the place of the
+// next byte goes in and comes back. Whole lanes go in and out where the place is a lane's first.
 ghost use mathlib.Core.Path.{_≡_};
-ghost use Prim.Native.Nat.{_+_, _*_, _%_, _≤_, _<_};
+ghost use Prim.Native.Nat.{_+_, _%_, _≤_, _<_};
 ghost use mathlib.Core.List.{_++_};
 ghost use lib.ListN.{length, take, drop, getD};
 ghost use Rattle.hash.specs.Sponge.{digits, number};
 ghost use Rattle.hash.specs.Stream.{Rate, sponge, mixed, turn as turned, feed, finish as finished, draw, drawn};
 use crate::keccak::permute;
 
+// Past the rate the lanes are permuted, and the next byte's place is the first.
 fn turn(s: &mut [u64; 25], rate: usize, at: usize) -> usize
     requires { ⌜ Rate rate ⌝ }
     ensures { λ r. ⌜ sponge (now (s .exit)) r ≡ turned rate (sponge (now (s .entry)) at) ⌝ }
@@ -29,6 +30,7 @@ fn mix(s: &mut [u64; 25], at: usize, b: u8)
     s[j] = s[j] ^ ((b as u64) << (8 * (at % 8)));
 }
 
+// A byte of m as a number of a lane's width.
 fn wide(m: &[u8], i: usize) -> u64
     requires { ⌜ i < length (now m) ⌝ }
     ensures { λ r. ⌜ (r ≡ getD (now (m .entry)) i 0) × (r < 256) ⌝ }
@@ -51,7 +53,7 @@ fn lane_at(m: &[u8], i: usize) -> u64
 }
 
 // A lane goes in where the place is its first byte and eight are left, else one byte. Returns how many.
-fn take_in(s: &mut [u64; 25], rate: usize, at: usize, m: &[u8], i: usize) -> usize
+fn absorb_next(s: &mut [u64; 25], rate: usize, at: usize, m: &[u8], i: usize) -> usize
     requires { ⌜ Rate rate × (at < rate) × (i < length (now m)) ⌝ }
     ensures { λ r. ⌜ (0 < r) × (i + r ≤ length (now (m .entry))) × (at + r ≤ rate) ⌝ }
     ensures { λ r. ⌜ sponge (now (s .exit)) (at + r)
@@ -77,7 +79,7 @@ pub fn absorb(s: &mut [u64; 25], rate: usize, at: usize, m: &[u8]) -> usize
     let mut i: usize = 0;
     while i < m.len() {
         p = turn(s, rate, p);
-        let n = take_in(s, rate, p, m, i);
+        let n = absorb_next(s, rate, p, m, i);
         p += n;
         i += n;
     }
@@ -95,6 +97,7 @@ pub fn finish(s: &mut [u64; 25], rate: usize, at: usize) -> usize
     rate
 }
 
+// The lowest byte of w.
 fn low(w: u64) -> u8
     ensures { λ r. ⌜ r ≡ w % 256 ⌝ }
 {
@@ -116,7 +119,7 @@ fn put_lane(w: u64, out: &mut [u8], i: usize)
 }
 
 // A lane comes out where the place is its first byte and there is room for eight, else one byte. Returns how many.
-fn give(s: &[u64; 25], rate: usize, at: usize, out: &mut [u8], i: usize) -> usize
+fn squeeze_next(s: &[u64; 25], rate: usize, at: usize, out: &mut [u8], i: usize) -> usize
     requires { ⌜ Rate rate × (at < rate) × (i < length (now out)) ⌝ }
     ensures { λ r. ⌜ (0 < r) × (i + r ≤ length (now (out .entry))) × (at + r ≤ rate) ⌝ }
     ensures { λ r. ⌜ take (i + r) (now (out .exit))
@@ -143,7 +146,7 @@ pub fn squeeze(s: &mut [u64; 25], rate: usize, at: usize, out: &mut [u8]) -> usi
     let mut i: usize = 0;
     while i < out.len() {
         p = turn(s, rate, p);
-        let n = give(s, rate, p, out, i);
+        let n = squeeze_next(s, rate, p, out, i);
         p += n;
         i += n;
     }

@@ -1,5 +1,6 @@
-use Rattle.hash.proofs.Rounds.{effects-are}
+-- What θ adds to each column is made of two parities: by the law on plain numbers.
 use borrow.Author.Needs.{needs}
+use Rattle.hash.proofs.Rounds.{effects-are}
 use Rattle.hash.proofs.keccak.effects.Statement.{statement}
 use Rattle.hash.proofs.keccak.effects.Tie as tie
 
@@ -21,14 +22,6 @@ pub effects-spec : {M : Type 1} → statement M
 effects-spec =
     tie.close
     (tie.spec
-    (λ c κs. search needs)
-    (λ c κs. search needs)
-    (λ c κs. search needs)
-    (λ c κs. search needs)
-    (λ c κs. search needs)
-    (λ c κs. search needs)
-    (λ c κs. search needs)
-    (λ c κs. search needs)
-    (λ c κs. search needs)
-    (λ c κs. search needs)
-    returns)
+    (λ c κs. search needs) (λ c κs. search needs) (λ c κs. search needs) (λ c κs. search needs)
+    (λ c κs. search needs) (λ c κs. search needs) (λ c κs. search needs) (λ c κs. search needs)
+    (λ c κs. search needs) (λ c κs. search needs) returns)

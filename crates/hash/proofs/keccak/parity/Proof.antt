@@ -1,9 +1,10 @@
+-- The parity of a column is that of its five places, x below 5 being its own remainder.
 use mathlib.Core.Path.{_≡_}
 use Prim.Native.Nat.{_%_}
 use native.Mathlib.Omega.{arith}
 use native.Mathlib.Nat.{zero-add}
-use Rattle.hash.specs.Keccak.{C, lane}
 use borrow.Author.Needs.{needs}
+use Rattle.hash.specs.Keccak.{C, lane}
 use Rattle.hash.proofs.keccak.parity.Statement.{statement}
 use Rattle.hash.proofs.keccak.parity.Tie as tie
 
@@ -18,18 +19,6 @@ pub parity-spec : {M : Type 1} → statement M
 parity-spec =
     tie.close
     (tie.spec
-    (λ c. search needs)
-    (λ c. search needs)
-    (λ c. search needs)
-    (λ c. search needs)
-    (λ c. search needs)
-    (λ c. search needs)
-    (λ c. search needs)
-    (λ c. search needs)
-    (λ c. search needs)
-    (λ c. search needs)
-    (λ c. search needs)
-    (λ c. search needs)
-    (λ c. search needs)
-    (λ c. search needs)
-    returns)
+    (λ c. search needs) (λ c. search needs) (λ c. search needs) (λ c. search needs) (λ c. search needs)
+    (λ c. search needs) (λ c. search needs) (λ c. search needs) (λ c. search needs) (λ c. search needs)
+    (λ c. search needs) (λ c. search needs) (λ c. search needs) (λ c. search needs) returns)

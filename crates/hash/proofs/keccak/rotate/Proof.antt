@@ -1,5 +1,6 @@
-use Rattle.hash.proofs.Rounds.{shift-pair}
+-- A rotation is a left shift joined with a right shift; at 0 both are the lane itself.
 use borrow.Author.Needs.{needs}
+use Rattle.hash.proofs.Rounds.{shift-pair}
 use Rattle.hash.proofs.keccak.rotate.Statement.{statement}
 use Rattle.hash.proofs.keccak.rotate.Tie as tie
 
@@ -7,4 +8,7 @@ returns : tie.Need-returns
 returns c = shift-pair (c .args .n) (c .args .a) (c .pre) (c .fits .a .fits)
 
 pub rotate-spec : {M : Type 1} → statement M
-rotate-spec = tie.close (tie.spec (λ c. search needs) (λ c. search needs) (λ c. search needs) (λ c. search needs) returns)
+rotate-spec =
+    tie.close
+    (tie.spec
+    (λ c. search needs) (λ c. search needs) (λ c. search needs) (λ c. search needs) returns)

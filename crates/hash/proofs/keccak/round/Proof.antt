@@ -1,21 +1,19 @@
-use Rattle.hash.specs.Keccak.{round, ι}
+-- A round is the five steps, each by its function's contract.
 use borrow.Author.Needs.{needs}
+use Rattle.hash.specs.Keccak.{round, ι}
 use Rattle.hash.proofs.keccak.round.Statement.{statement}
 use Rattle.hash.proofs.keccak.round.Tie as tie
 
 returns : tie.Need-returns
 unfolding round ι
 returns c =
-    rw (c .before .chi .ensures, c .before .before .before .pi .ensures, c .before .before .before .before .before .rho .ensures, c .before .before .before .before .before .before .before .theta .ensures)
+    let p = c .before .before .before in
+    let r = p .before .before in
+    rw (c .before .chi .ensures, p .pi .ensures, r .rho .ensures, r .before .before .theta .ensures)
 
 pub round-spec : {M : Type 1} → statement M
 round-spec =
     tie.close
     (tie.spec
-    (λ c κs. search needs)
-    (λ c κs. search needs)
-    (λ c κs. search needs)
-    (λ c κs. search needs)
-    (λ c. search needs)
-    (λ c. search needs)
-    returns)
+    (λ c κs. search needs) (λ c κs. search needs) (λ c κs. search needs) (λ c κs. search needs) (λ c. search needs)
+    (λ c. search needs) returns)

@@ -1,13 +1,14 @@
+-- θ, lane by lane: each store is the next lane of the definition.
 use mathlib.Core.Path.{refl, sym, ap, ap₂, _∙_}
 use Prim.Native.Nat.{ℕ, _+_, _-_, _%_, _<_}
+use mathlib.Core.List.{List}
 use native.Mathlib.Omega.{arith}
 use lib.ListN.{getD}
 use lib.Bits.{bitXor}
-use mathlib.Core.List.{List}
+use borrow.Author.Needs.{needs}
 use Rattle.hash.specs.Keccak.{lane, D, θ}
 use Rattle.hash.proofs.Each.{Filled, filled-start, filled-next, filled-end, getD-each}
 use Rattle.hash.proofs.Rounds.{lane-place}
-use borrow.Author.Needs.{needs}
 use Rattle.hash.proofs.keccak.theta.Statement.{statement}
 use Rattle.hash.proofs.keccak.theta.Tie as tie
 
@@ -42,17 +43,6 @@ pub theta-spec : {M : Type 1} → statement M
 theta-spec =
     tie.close
     (tie.spec
-    Inv-loop
-    μ-loop
-    (λ c κs. search needs)
-    loop-holds
-    (λ c. search needs)
-    (λ c. search needs)
-    (λ c. search needs)
-    (λ c. search needs)
-    (λ c. search needs)
-    (λ c. search needs)
-    (λ c. search needs)
-    (λ c. search needs)
-    loop-again
+    Inv-loop μ-loop (λ c κs. search needs) loop-holds (λ c. search needs) (λ c. search needs) (λ c. search needs)
+    (λ c. search needs) (λ c. search needs) (λ c. search needs) (λ c. search needs) (λ c. search needs) loop-again
     returns)

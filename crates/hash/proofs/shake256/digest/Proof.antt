@@ -1,5 +1,6 @@
-use Rattle.hash.proofs.Laws.{shaken}
+-- One piece absorbed, finished and squeezed is SHAKE256 of it: by the law `shaken`.
 use borrow.Author.Needs.{needs}
+use Rattle.hash.proofs.Laws.{shaken}
 use Rattle.hash.proofs.shake256.digest.Statement.{statement}
 use Rattle.hash.proofs.shake256.digest.Tie as tie
 
@@ -8,4 +9,6 @@ returns c = rw shaken (cc)
 
 pub digest-spec : {M : Type 1} → statement M
 digest-spec =
-    tie.close (tie.spec (λ c κs. search needs) (λ c κs. search needs) (λ c κs. search needs) (λ c. search needs) returns)
+    tie.close
+    (tie.spec
+    (λ c κs. search needs) (λ c κs. search needs) (λ c κs. search needs) (λ c. search needs) returns)

@@ -1,11 +1,12 @@
+-- After each turn the sponge is that fed the bytes passed.
 use mathlib.Core.Path.{_≡_, refl, ap, _∙_}
 use Prim.Native.Nat.{_-_, _≤_}
 use native.Mathlib.Omega.{arith}
-use lib.ListN.{length, take, drop}
+use lib.ListN.{length, take}
 use lib.Seq.{take-all}
-use Rattle.hash.specs.Stream.{Sponge, sponge, turn, feed, close}
-use Rattle.hash.proofs.Stream.{feed-next}
 use borrow.Author.Needs.{needs}
+use Rattle.hash.specs.Stream.{sponge, turn, feed}
+use Rattle.hash.proofs.Stream.{feed-next}
 use Rattle.hash.proofs.sponge.absorb.Statement.{statement}
 use Rattle.hash.proofs.sponge.absorb.Tie as tie
 
@@ -23,13 +24,12 @@ loop-again : tie.Need-loop-again Inv-loop μ-loop
 loop-again c =
     let a = c .before .before .before .before .before .before .before .args in
     let l = c .before .before .before .before .before .loop in
-    let n = c .take-in .result in
+    let g = c .absorb-next in
     let k = sponge (a .s .now) (a .at) in (
       omega arith,
-      c .take-in .ensures .1
-          ∙ ap (λ (x : Sponge). feed (a .rate) x (take n (drop (l .i) (a .m .now))))
-          (c .before .before .turn .ensures .0 ∙ ap (turn (a .rate)) (l .inv .1))
-          ∙ feed-next (a .rate) (omega arith) k (a .m .now) (l .i) n (omega arith) (omega arith),
+      feed-next (a .rate) (omega arith) k (a .m .now) (l .i) (g .result) (omega arith) (omega arith) (l .inv .1)
+          (c .before .before .turn .ensures .0)
+          (g .ensures .1),
     )
 
 returns : tie.Need-returns Inv-loop μ-loop
@@ -39,13 +39,5 @@ pub absorb-spec : {M : Type 1} → statement M
 absorb-spec =
     tie.close
     (tie.spec
-    Inv-loop
-    μ-loop
-    loop-holds
-    (λ c κs. search needs)
-    (λ c κs. search needs)
-    (λ c. search needs)
-    (λ c. search needs)
-    (λ c. search needs)
-    loop-again
-    returns)
+    Inv-loop μ-loop loop-holds (λ c κs. search needs) (λ c κs. search needs) (λ c. search needs) (λ c. search needs)
+    (λ c. search needs) loop-again returns)

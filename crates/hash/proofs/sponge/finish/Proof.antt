@@ -1,11 +1,17 @@
-use Rattle.hash.specs.Stream.{turn, close, finish}
+-- The suffix and the padding's two ones are two bytes added to the last block.
 use borrow.Author.Needs.{needs}
+use Rattle.hash.specs.Stream.{turn, close, finish}
 use Rattle.hash.proofs.sponge.finish.Statement.{statement}
 use Rattle.hash.proofs.sponge.finish.Tie as tie
 
 returns : tie.Need-returns
 unfolding finish close
-returns c = rw (c .mix2 .ensures, c .before .before .mix .ensures, ← c .before .before .before .before .turn .ensures .0)
+returns c =
+    let p = c .before .before in
+    rw (c .mix2 .ensures, p .mix .ensures, ← p .before .before .turn .ensures .0)
 
 pub finish-spec : {M : Type 1} → statement M
-finish-spec = tie.close (tie.spec (λ c κs. search needs) (λ c κs. search needs) (λ c. search needs) (λ c κs. search needs) returns)
+finish-spec =
+    tie.close
+    (tie.spec
+    (λ c κs. search needs) (λ c κs. search needs) (λ c. search needs) (λ c κs. search needs) returns)

@@ -1,11 +1,13 @@
+-- Eight bytes make a lane, from the highest down: the value so far is that of the bytes passed, and there is room
+-- for one more.
 use mathlib.Core.Path.{_≡_, refl, sym, ap₂, _∙_}
-use Prim.Native.Nat.{ℕ, _+_, _-_, _*_, _≤_}
+use Prim.Native.Nat.{ℕ, _+_, _-_, _*_, _^_, _≤_, _<_}
 use native.Mathlib.Omega.{arith}
 use lib.ListN.{take, drop}
-use Rattle.hash.specs.Sponge.{number}
-use Rattle.hash.specs.Stream.{close}
-use Rattle.hash.proofs.Lanes.{number-room, number-turn}
 use borrow.Author.Needs.{needs}
+use Rattle.lists.specs.Below.{Below}
+use Rattle.hash.specs.Sponge.{number}
+use Rattle.hash.proofs.Lanes.{number-room, number-turn}
 use Rattle.hash.proofs.sponge.lane_at.Statement.{statement}
 use Rattle.hash.proofs.sponge.lane_at.Tie as tie
 
@@ -19,19 +21,23 @@ loop-holds : tie.Need-loop-holds Inv-loop μ-loop
 unfolding number
 loop-holds c = (omega arith, refl)
 
-mul-w : tie.Need-mul-w Inv-loop μ-loop
-mul-w c =
+-- there is room for a byte more
+room : (c : tie.In-loop Inv-loop μ-loop) → c .before .loop .w < 2 ^ 56
+room c =
     let l = c .before .loop in
     let a = c .before .before .before .args in
-    let g = number-room (a .m .now) (λ j. c .before .before .shared-slice-known .given j .fits) (a .i) (l .k) (omega arith) in
-    omega (arith, l .inv .1)
+    let b : Below 256 (a .m .now) = λ j. c .before .before .shared-slice-known .given j .fits in
+    rw (l .inv .1) (number-room (a .m .now) b (a .i) (l .k) (omega arith))
+
+mul-w : tie.Need-mul-w Inv-loop μ-loop
+mul-w c =
+    let g = room c in
+    omega arith
 
 add-w : tie.Need-add-w Inv-loop μ-loop
 add-w c =
-    let l = c .before .before .loop in
-    let a = c .before .before .before .before .args in
-    let g = number-room (a .m .now) (λ j. c .before .before .before .shared-slice-known .given j .fits) (a .i) (l .k) (omega arith) in
-    omega (arith, l .inv .1)
+    let g = room (c .before) in
+    omega arith
 
 loop-again : tie.Need-loop-again Inv-loop μ-loop
 loop-again c =
@@ -54,14 +60,5 @@ pub lane-at-spec : {M : Type 1} → statement M
 lane-at-spec =
     tie.close
     (tie.spec
-    Inv-loop
-    μ-loop
-    loop-holds
-    (λ c. search needs)
-    mul-w
-    (λ c. search needs)
-    (λ c κs. search needs)
-    add-w
-    (λ c. search needs)
-    loop-again
-    returns)
+    Inv-loop μ-loop loop-holds (λ c. search needs) mul-w (λ c. search needs) (λ c κs. search needs) add-w
+    (λ c. search needs) loop-again returns)

@@ -1,8 +1,9 @@
+-- A byte is added to a lane at its place, since shifting it loses nothing.
 use Prim.Native.Nat.{_*_, _%_}
 use native.Mathlib.Omega.{arith}
-use Rattle.hash.specs.Stream.{mixed, close}
-use Rattle.hash.proofs.Lanes.{shifted}
 use borrow.Author.Needs.{needs}
+use Rattle.hash.specs.Stream.{mixed}
+use Rattle.hash.proofs.Lanes.{shifted}
 use Rattle.hash.proofs.sponge.mix.Statement.{statement}
 use Rattle.hash.proofs.sponge.mix.Tie as tie
 
@@ -12,4 +13,7 @@ returns c = rw (shifted (c .before .args .b) (8 * (c .before .args .at % 8)) (om
 
 pub mix-spec : {M : Type 1} → statement M
 mix-spec =
-    tie.close (tie.spec (λ c. search needs) (λ c. search needs) (λ c. search needs) (λ c. search needs) (λ c. search needs) (λ c. search needs) returns)
+    tie.close
+    (tie.spec
+    (λ c. search needs) (λ c. search needs) (λ c. search needs) (λ c. search needs) (λ c. search needs)
+    (λ c. search needs) returns)

@@ -1,13 +1,13 @@
+-- The bytes put, with those that the rest of the lane still holds, are the lane's.
 use mathlib.Core.Path.{_≡_, refl, sym, ap, _∙_}
 use Prim.Native.Nat.{ℕ, _+_, _-_, _/_, _≤_}
-use native.Mathlib.Omega.{arith}
 use mathlib.Core.List.{_++_, append-nil}
-use lib.ListN.{length, set, take, length-set}
+use native.Mathlib.Omega.{arith}
 use native.Mathlib.Nat.{add-zero}
-use Rattle.hash.specs.Sponge.{digits}
-use Rattle.hash.specs.Stream.{close}
-use Rattle.hash.proofs.Lanes.{store-next}
+use lib.ListN.{length, set, take, length-set}
 use borrow.Author.Needs.{needs}
+use Rattle.hash.specs.Sponge.{digits}
+use Rattle.hash.proofs.Lanes.{store-next}
 use Rattle.hash.proofs.sponge.put_lane.Statement.{statement}
 use Rattle.hash.proofs.sponge.put_lane.Tie as tie
 
@@ -52,14 +52,5 @@ pub put-lane-spec : {M : Type 1} → statement M
 put-lane-spec =
     tie.close
     (tie.spec
-    Inv-loop
-    μ-loop
-    loop-holds
-    (λ c κs. search needs)
-    (λ c. search needs)
-    (λ c. search needs)
-    (λ c. search needs)
-    (λ c. search needs)
-    loop-again
-    same-length
-    returns)
+    Inv-loop μ-loop loop-holds (λ c κs. search needs) (λ c. search needs) (λ c. search needs) (λ c. search needs)
+    (λ c. search needs) loop-again same-length returns)

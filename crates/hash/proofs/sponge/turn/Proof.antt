@@ -1,8 +1,9 @@
+-- A turn permutes past the rate and does nothing below it.
 use mathlib.Core.Path.{sym}
 use native.Mathlib.Omega.{arith}
-use Rattle.hash.specs.Stream.{sponge, close}
-use Rattle.hash.proofs.Stream.{turn-yes, turn-no}
 use borrow.Author.Needs.{needs}
+use Rattle.hash.specs.Stream.{sponge}
+use Rattle.hash.proofs.Stream.{turn-yes, turn-no}
 use Rattle.hash.proofs.sponge.turn.Statement.{statement}
 use Rattle.hash.proofs.sponge.turn.Tie as tie
 

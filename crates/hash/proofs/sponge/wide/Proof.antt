@@ -1,6 +1,6 @@
+-- A byte of a slice is a number below 256.
 use mathlib.Core.Path.{refl}
 use native.Mathlib.Omega.{arith}
-use Rattle.hash.specs.Stream.{close}
 use borrow.Author.Needs.{needs}
 use Rattle.hash.proofs.sponge.wide.Statement.{statement}
 use Rattle.hash.proofs.sponge.wide.Tie as tie

@@ -1,0 +1,1 @@
+// The definition of SHAKE256 at one value: see proofs/Value.antt.
