@@ -1,5 +1,6 @@
--- The byte stream is FIPS 202's sponge by blocks: eight bytes are a lane, a rate's lanes a block, and a turn after
--- each block is its permutation. By induction on the lanes of a block and on the blocks.
+-- The byte stream is FIPS 202's sponge by blocks, by induction on a block's lanes and on the blocks: eight bytes are a
+-- lane, a rate's lanes a block, and a turn after each block its permutation.
+-- Assumes nothing.
 use mathlib.Core.Path.{_≡_, refl, sym, ap, ap₂, _∙_, subst⁻¹}
 use Prim.Native.Nat.{ℕ, zero, suc, _+_, _-_, _*_, _/_, _%_, _^_, _<_, _≤_}
 use mathlib.Core.List.{List, [], _∷_, _++_}
@@ -22,7 +23,7 @@ use Rattle.hash.proofs.Rounds.{length-keccak-f}
 use Rattle.hash.proofs.Stream.{turn-no, turn-yes, feed-append, turn-feed, draw-add, drawn-in, draw-turn}
 use Rattle.hash.proofs.Stream.{draw-front}
 
--- ---- zeros add nothing
+-- ---- Zeros add nothing
 
 abbrev zeros : ℕ → List ℕ
 zeros n = replicate n 0
@@ -52,7 +53,7 @@ add-zeros (a ∷ s) z =
     (ap (bitXor a) (number-zeros 8 z) ∙ xor-zero-r a)
     (ap (λ (l : List ℕ). s ⊕ gather 8 8 (length s) l) (drop-zeros 8 z) ∙ add-zeros s (z - 8))
 
--- ---- a block goes in
+-- ---- A block goes in
 
 first-lane : (a : ℕ) (s b : List ℕ) (z : ℕ) → 8 ≤ length b
     → (a ∷ s) ⊕ gather 8 8 (length (a ∷ s)) (b ++ zeros z)
@@ -62,7 +63,7 @@ first-lane a s b z h =
     ap₂ (λ (x l : List ℕ). bitXor a (number 8 x) ∷ (s ⊕ gather 8 8 (length s) l)) (take-append-le 8 b (zeros z) h)
     (drop-append-le 8 b (zeros z) h)
 
--- the lane behind f takes eight bytes
+-- The lane behind f takes eight bytes.
 lane-behind : (r : ℕ) (f s : List ℕ) (a : ℕ) (b : List ℕ) → Below 256 b → length b ≡ 8 → 8 * length f + 8 ≤ r
     → feed r (sponge (f ++ a ∷ s) (8 * length f)) b
     ≡ sponge (f ++ (bitXor a (number 8 b) ∷ []) ++ s) (8 * length (f ++ (bitXor a (number 8 b) ∷ [])))
@@ -76,7 +77,7 @@ lane-behind r f s a b hb hl hr =
     (getD-append-seam f a s 0)
     ∙ ap₂ sponge (set-append-seam f a s v ∙ sym (append-snoc f v s)) n
 
--- the L lanes behind f take eight bytes each
+-- The L lanes behind f take eight bytes each.
 lanes-behind : (r L : ℕ) (f s b : List ℕ) (z : ℕ) → Below 256 b → length b ≡ 8 * L → L ≤ length s
     → 8 * (length f + L) ≤ r
     → feed r (sponge (f ++ s) (8 * length f)) b
@@ -104,9 +105,9 @@ lanes-behind r (suc L) f (a ∷ s) b z hb hl hs hr =
     ∙ ap (λ (l : List ℕ). f ++ l) (sym (first-lane a s b z (omega arith))))
     n
 
--- ---- blocks come out
+-- ---- Blocks come out
 
--- eight bytes come out of each of the L lanes behind f
+-- Eight bytes come out of each of the L lanes behind f.
 lanes-out : (r L : ℕ) (f s : List ℕ) → L ≤ length s → 8 * (length f + L) ≤ r
     → draw r (8 * L) (sponge (f ++ s) (8 * length f)) ≡ take (8 * L) (spread 8 8 s)
 unfolding draw spread digits
@@ -130,7 +131,7 @@ lanes-out r (suc L) f (a ∷ s) hs hr =
     ∙ sym (ap (λ (x : ℕ). take x (digits 8 8 a ++ spread 8 8 s)) e
     ∙ take-append-add (digits 8 8 a) (spread 8 8 s) (8 * L))
 
--- ---- at a rate of L lanes
+-- ---- At a rate of L lanes
 
 module _ (L : ℕ) (some : 0 < L) (all : L ≤ 25) where
   abbrev r : ℕ
@@ -142,7 +143,7 @@ module _ (L : ℕ) (some : 0 < L) (all : L ≤ 25) where
       lanes-behind r L [] s b (200 - r) hb hl (omega arith) (omega arith)
       ∙ ap₂ (λ (n l : ℕ). sponge (s ⊕ gather 8 8 n (b ++ zeros (200 - r))) (8 * l)) hs (zero-add L)
 
-  -- whole blocks fed are absorbed
+  -- Whole blocks fed are absorbed.
   absorbed : (n : ℕ) (p s : List ℕ) → length s ≡ 25 → Below 256 p → length p ≡ n * r
       → turn r (feed r (sponge s 0) p) ≡ sponge (absorb r n p s) 0
   unfolding absorb feed
@@ -162,7 +163,7 @@ module _ (L : ℕ) (some : 0 < L) (all : L ≤ 25) where
       ∙ ap (λ (k : Sponge). turn r (feed r k d)) (turn-yes r (sponge x r) (omega arith))
       ∙ absorbed n d (keccak-f x) (length-keccak-f x) (below-drop 256 r p hp) ld
 
-  -- whole blocks drawn are squeezed
+  -- Whole blocks drawn are squeezed.
   squeezed : (n : ℕ) (s : List ℕ) → length s ≡ 25 → draw r (suc n * r) (sponge s 0) ≡ squeeze r n s
   unfolding squeeze
   squeezed zero s hs =
@@ -183,7 +184,7 @@ module _ (L : ℕ) (some : 0 < L) (all : L ≤ 25) where
   length-absorb zero p s h = h
   length-absorb (suc n) p s h = length-absorb n (drop r p) _ (length-keccak-f _)
 
-  -- the padded message is whole blocks
+  -- The padded message is whole blocks.
   padded-whole : (m : List ℕ) → length (low m ++ padding (r - 1 - length m % r)) ≡ suc (length m / r) * r
   padded-whole m =
       let q : ℕ = r - 1 - length m % r in
@@ -197,7 +198,7 @@ module _ (L : ℕ) (some : 0 < L) (all : L ≤ 25) where
         suc-mul (length m / r) r,
       )
 
-  -- the sponge by blocks is the stream, finished and drawn
+  -- The sponge by blocks is the stream, finished and drawn.
   pub keccak-stream : (m : List ℕ) (n : ℕ) → keccak r suffix m n ≡ draw r n (finish r (feed r empty m))
   unfolding keccak draw
   keccak-stream m zero = refl

@@ -1,5 +1,6 @@
--- Bytes that go into one lane, or come out of it, together: ⊕ is associative, and bytes at different places don't
+-- Bytes that go into one lane, or come out of it, go together: ⊕ is associative, and bytes at different places don't
 -- overlap.
+-- Assumes nothing.
 use mathlib.Core.Path.{_≡_, refl, sym, ap, ap₂, _∙_, subst}
 use Prim.Native.Nat.{ℕ, zero, suc, _+_, _-_, _*_, _/_, _%_, _^_, _<_, _≤_, min}
 use mathlib.Core.List.{List, [], _∷_, _++_, append-assoc}
@@ -18,7 +19,7 @@ use Rattle.hash.specs.Sponge.{digits, number}
 use Rattle.hash.specs.Stream.{Sponge, sponge, byteOf, mixed, step, put, feed, draw}
 use Rattle.hash.proofs.Stream.{turn-no, draw-step}
 
--- a byte shifted within a lane loses nothing
+-- A byte shifted within a lane loses nothing.
 pub shifted : (b n : ℕ) → b < 256 → n ≤ 56 → b * 2 ^ n % 2 ^ 64 ≡ b * 2 ^ n
 shifted b n hb hn =
     mod-eq-of-lt (lt-of-lt-of-le (mul-lt-mul-of-pos-right hb (pow-pos n)) (mul-le-mul-left 256 (pow-mono hn)))
@@ -38,7 +39,7 @@ join b l o h =
     (sym (mul-assoc l 256 (2 ^ (8 * o))) ∙ ap (λ (x : ℕ). x * 2 ^ (8 * o)) (mul-comm l 256))
     ∙ add-comm (256 * l * 2 ^ (8 * o)) (b * 2 ^ (8 * o)) ∙ sym (add-mul b (256 * l) (2 ^ (8 * o)))
 
--- what is added to a lane twice is added at once; where there is no lane j, nothing is set
+-- What is added to a lane twice is added at once; where there is no lane j, nothing is set.
 pub set-twice : (s : List ℕ) (j a b : ℕ)
     → set (set s j (bitXor (getD s j 0) a)) j (bitXor (getD (set s j (bitXor (getD s j 0) a)) j 0) b)
     ≡ set s j (bitXor (getD s j 0) (bitXor a b))
@@ -51,7 +52,7 @@ set-twice s j a b =
           ∙ xor-assoc (getD s j 0) a b)
     ]
 
--- a byte goes in below the rate
+-- A byte goes in below the rate.
 pub byte-in : (r : ℕ) (s : List ℕ) (at b : ℕ) → at < r → b < 256
     → put r (sponge s at) b ≡ sponge (mixed s at b) (at + 1)
 unfolding put step
@@ -67,7 +68,7 @@ byte-into r s j o b hj ho hb =
     byte-in r s (8 * j + o) b (omega arith) hb
     ∙ ap₂ (λ (x y : ℕ). sponge (set s x (bitXor (getD s x 0) (b * 2 ^ (8 * y)))) (8 * j + o + 1)) d e
 
--- bytes go into lane j above o bytes of it
+-- Bytes go into lane j above o bytes of it.
 bytes-into : (r j : ℕ) → 8 * j + 8 ≤ r → (p : List ℕ) → Below 256 p → (s : List ℕ) (o : ℕ) → o + length p ≤ 8
     → feed r (sponge s (8 * j + o)) p
     ≡ sponge (set s j (bitXor (getD s j 0) (number 8 p * 2 ^ (8 * o)))) (8 * j + o + length p)
@@ -89,7 +90,7 @@ bytes-into r j hj (b ∷ p) hp s o ho =
     ∙ ap (λ (y : ℕ). set s j (bitXor x y)) (join b (number 8 p) o (hp 0)))
     f
 
--- eight bytes go into a lane
+-- Eight bytes go into a lane.
 pub lane-in : (r : ℕ) (p : List ℕ) → Below 256 p → length p ≡ 8 → (s : List ℕ) (at : ℕ) → at % 8 ≡ 0 → at + 8 ≤ r
     → feed r (sponge s at) p ≡ sponge (set s (at / 8) (bitXor (getD s (at / 8) 0) (number 8 p))) (at + 8)
 lane-in r p hp hl s at ha hr =
@@ -99,7 +100,7 @@ lane-in r p hp hl s at ha hr =
     ∙ bytes-into r (at / 8) (omega arith) p hp s 0 (omega arith)
     ∙ ap₂ (λ (x q : ℕ). sponge (set s (at / 8) (bitXor (getD s (at / 8) 0) x)) q) (mul-one (number 8 p)) f
 
--- bytes come out of lane j above o bytes of it
+-- Bytes come out of lane j above o bytes of it.
 bytes-out : (r j : ℕ) → 8 * j + 8 ≤ r → (s : List ℕ) (n o : ℕ) → o + n ≤ 8
     → draw r n (sponge s (8 * j + o)) ≡ digits 8 n (getD s j 0 / 2 ^ (8 * o))
 unfolding draw digits byteOf
@@ -115,7 +116,7 @@ bytes-out r j hj s (suc n) o ho =
     (ap (λ (p : ℕ). draw r n (sponge s p)) f ∙ bytes-out r j hj s n (suc o) (omega arith)
     ∙ ap (digits 8 n) (ap (λ (x : ℕ). getD s j 0 / 2 ^ x) g ∙ sym (shr-shr (getD s j 0) (8 * o) 8)))
 
--- eight bytes come out of a lane
+-- Eight bytes come out of a lane.
 pub lane-out : (r : ℕ) (s : List ℕ) (at : ℕ) → at % 8 ≡ 0 → at + 8 ≤ r
     → draw r 8 (sponge s at) ≡ digits 8 8 (getD s (at / 8) 0)
 lane-out r s at ha hr =
@@ -124,12 +125,12 @@ lane-out r s at ha hr =
     ∙ bytes-out r (at / 8) (omega arith) s 8 0 (omega arith)
     ∙ ap (digits 8 8) (div-one (getD s (at / 8) 0))
 
--- one byte comes out
+-- One byte comes out.
 pub byte-out : (r : ℕ) (s : List ℕ) (at : ℕ) → at < r → draw r 1 (sponge s at) ≡ byteOf s at ∷ []
 unfolding draw
 byte-out r s at h = draw-step r s at 0 h
 
--- a number of bytes is below its power
+-- A number of bytes is below its power.
 number-lt : (p : List ℕ) → Below 256 p → number 8 p < 2 ^ (8 * length p)
 unfolding number
 number-lt [] h = pow-pos 0
@@ -139,7 +140,7 @@ number-lt (b ∷ p) h =
     let g : number 8 p < 2 ^ (8 * length p) = number-lt p (λ i. h (suc i)) in
     rw (e, pow-add 2 8 (8 * length p)) (omega arith)
 
--- seven bytes and fewer leave room for one more in a lane
+-- Seven bytes and fewer leave room for one more in a lane.
 pub number-room : (m : List ℕ) → Below 256 m → (i k : ℕ) → 0 < k → number 8 (take (8 - k) (drop (i + k) m)) < 2 ^ 56
 number-room m h i k hk =
     let p : List ℕ = take (8 - k) (drop (i + k) m) in
@@ -148,7 +149,7 @@ number-room m h i k hk =
     (number-lt p (below-take 256 (8 - k) (drop (i + k) m) (omega arith) (below-drop 256 (i + k) m h)))
     (pow-mono {i = 8 * length p} {j = 56} (omega arith))
 
--- a lane's value so far and its byte below
+-- A lane's value so far and its byte below.
 pub number-turn : (m : List ℕ) (i k : ℕ) → 0 < k → k ≤ 8 → i + 8 ≤ length m
     → number 8 (take (8 - (k - 1)) (drop (i + (k - 1)) m))
     ≡ number 8 (take (8 - k) (drop (i + k) m)) * 256 + getD m (i + (k - 1)) 0
@@ -159,7 +160,7 @@ number-turn m i k hk h8 hi =
     let h : i + (k - 1) < length m = omega arith in
     rw (e, drop-cons m (i + (k - 1)) 0 h, f) (omega arith)
 
--- a store of a lane's next byte leaves the rest of its bytes
+-- A store of a lane's next byte leaves the rest of its bytes.
 pub store-next : (l : List ℕ) (i k w : ℕ) → i + k < length l → k < 8
     → take (i + (k + 1)) (set l (i + k) (w % 256)) ++ digits 8 (8 - (k + 1)) (w / 256)
     ≡ take (i + k) l ++ digits 8 (8 - k) w

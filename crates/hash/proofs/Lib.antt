@@ -1,7 +1,8 @@
-pub mod Blocks
+-- Laws on plain values, in reading order; callers cite those of Laws.
 pub mod Each
-pub mod Lanes
-pub mod Laws
-pub mod Pad
 pub mod Rounds
 pub mod Stream
+pub mod Lanes
+pub mod Pad
+pub mod Blocks
+pub mod Laws

@@ -1,5 +1,6 @@
--- To finish the stream is to feed the bytes of 1111 and pad10*1: the bits of the padding, gathered to bytes, are a
--- byte 0x1f, zeros and a byte 0x80 up to the block's end, or 0x9f alone.
+-- To finish the stream is to feed the bytes of 1111 and pad10*1, since the bits of the padding, gathered to bytes, are
+-- 0x1f, zeros and 0x80 up to the block's end, or 0x9f alone.
+-- Assumes nothing.
 use mathlib.Core.Path.{_≡_, refl, sym, ap, ap₂, _∙_, subst}
 use Prim.Native.Nat.{ℕ, zero, suc, _+_, _-_, _*_, _/_, _%_, _^_, _<_, _≤_}
 use mathlib.Core.List.{List, [], _∷_, _++_, map, append-assoc}
@@ -19,18 +20,18 @@ use Rattle.hash.specs.Stream.{Sponge, Rate, sponge, mixed, turn, step, p
 use Rattle.hash.proofs.Stream.{turn-no, turn-yes, feed-append}
 use Rattle.hash.proofs.Lanes.{set-twice}
 
--- n + 1 bytes that end a block
+-- The n + 1 bytes that end a block.
 unfoldable pub padding : ℕ → List ℕ
 padding zero = 0x9f ∷ []
 padding (suc n) = 0x1f ∷ replicate n 0 ++ 0x80 ∷ []
 
--- it is that long
+-- It is that long.
 pub length-padding : (n : ℕ) → length (padding n) ≡ suc n
 unfolding padding
 length-padding zero = refl
 length-padding (suc n) = simp (length-append, length-replicate) (omega arith)
 
--- it is bytes
+-- It is bytes.
 pub below-padding : (n : ℕ) → Below 256 (padding n)
 unfolding padding
 below-padding zero = below-test 256 (0x9f ∷ []) (omega arith) tt
@@ -39,7 +40,7 @@ below-padding (suc n) =
     (below-append 256 (replicate n 0) (0x80 ∷ []) (below-replicate 256 n 0 (omega arith) (omega arith))
     (below-test 256 (0x80 ∷ []) (omega arith) tt))
 
--- ---- the stream
+-- ---- The stream
 
 module _ (r : ℕ) where
   turn-at : 0 < r → (k : Sponge) → k .at ≤ r → turn r k .at ≡ k .at % r
@@ -53,7 +54,7 @@ module _ (r : ℕ) where
   turn-below : 0 < r → (k : Sponge) → k .at ≤ r → turn r k .at < r
   turn-below p k h = rw (turn-at p k h) (mod-lt (k .at) p)
 
-  -- the place after m
+  -- The place after m.
   place : 0 < r → (m : List ℕ) (k : Sponge) → k .at ≤ r → turn r (feed r k m) .at ≡ (k .at + length m) % r
   unfolding feed put step
   place p [] k h = turn-at p k h ∙ ap (λ (n : ℕ). n % r) (sym (add-zero (k .at)))
@@ -107,7 +108,7 @@ module _ (r : ℕ) where
   closed w k zero e = sym (ended-at-once w (turn r k .lanes) (turn r k .at) (omega arith))
   closed w k (suc n) e = sym (ended n (turn r k .lanes) (turn r k .at) (omega arith))
 
-  -- to finish a message is to feed its padding
+  -- To finish a message is to feed its padding.
   pub finished : Rate r → (m : List ℕ) → finish r (feed r empty m) ≡ feed r empty (m ++ padding (r - 1 - length m % r))
   unfolding finish
   finished h m =
@@ -117,9 +118,9 @@ module _ (r : ℕ) where
       closed (h .0) (feed r empty m) (r - 1 - length m % r) (omega arith)
       ∙ sym (feed-append r empty m (padding (r - 1 - length m % r)))
 
--- ---- the bits
+-- ---- The bits
 
--- of each number its low byte
+-- Of each number its low byte.
 abbrev pub low : List ℕ → List ℕ
 low = map (λ x. x % 256)
 
@@ -127,14 +128,14 @@ pub below-low : (m : List ℕ) → Below 256 (low m)
 below-low m i =
     subst (λ (x : ℕ). x < 256) (sym (List·getD-map (λ (x : ℕ). x % 256) m i 0)) (mod-lt (getD m i 0) (omega arith))
 
--- only the low bytes of a message go in
+-- Only the low bytes of a message go in.
 pub feed-low : (r : ℕ) (m p : List ℕ) (k : Sponge) → feed r k (low m ++ p) ≡ feed r k (m ++ p)
 unfolding feed put
 feed-low r [] p k = refl
 feed-low r (b ∷ m) p k =
     ap (λ (x : ℕ). feed r (step x (turn r k)) (low m ++ p)) (mod-mod b 256) ∙ feed-low r m p (put r k b)
 
--- the bits of bytes, gathered again
+-- The bits of bytes, gathered again.
 gather-bytes : (m p : List ℕ) (n : ℕ) → gather 1 8 (length m + n) (spread 1 8 m ++ p) ≡ low m ++ gather 1 8 n p
 unfolding gather spread digits number
 gather-bytes [] p n = ap (λ (k : ℕ). gather 1 8 k p) (zero-add n)
@@ -163,7 +164,7 @@ gather-padding (suc n) =
     let e : 8 * suc n + 2 ≡ 3 + (8 * n + 7) = omega arith in
     rw (e, ← replicate-append-replicate {A = ℕ} 3 (8 * n + 7) 0) (ap (λ (l : List ℕ). 0x1f ∷ l) (gather-zeros n))
 
--- how many zeros pad10*1 has between its ones
+-- How many zeros pad10*1 has between its ones.
 zeros-between : (r n : ℕ) → 0 < r → (8 * r - (8 * n + 4 + 2) % (8 * r)) % (8 * r) ≡ 8 * (r - 1 - n % r) + 2
 zeros-between r n p =
     let a : ℕ = n % r in
@@ -174,7 +175,7 @@ zeros-between r n p =
     let g : 8 * r - (8 * a + 6) ≡ 8 * (r - 1 - a) + 2 = omega arith in
     ap (λ (x : ℕ). (8 * r - x) % (8 * r)) f ∙ ap (λ (x : ℕ). x % (8 * r)) g ∙ mod-eq-of-lt (omega arith)
 
--- the ones of pad10*1 with j zeros between them
+-- The ones of pad10*1 with j zeros between them.
 tail : ℕ → List ℕ
 tail j = 1 ∷ replicate j 0 ++ 1 ∷ []
 
@@ -182,7 +183,7 @@ length-tail : (j : ℕ) → length (tail j) ≡ j + 2
 unfolding tail
 length-tail j = simp (length-append, length-replicate) (omega arith)
 
--- a message with the suffix and its padding, in bytes
+-- A message with the suffix and its padding, in bytes.
 pub padded-bytes : (r : ℕ) → 0 < r → (m : List ℕ)
     → padded r (spread 1 8 m ++ suffix) ≡ low m ++ padding (r - 1 - length m % r)
 unfolding padded pad tail suffix

@@ -1,5 +1,6 @@
--- What the code's lanes and shifts are in the definitions' words: places by their column and row, a rotation by its
--- two parts.
+-- What the code does with lanes and shifts is what the definitions say: a place is a column and a row, and a rotation
+-- is two parts of a lane.
+-- Assumes nothing.
 use mathlib.Core.Path.{_≡_, sym, ap, ap₂, _∙_}
 use Prim.Native.Nat.{ℕ, zero, suc, _+_, _-_, _*_, _/_, _%_, _^_, _≤_, _<_}
 use mathlib.Core.List.{List, [], _∷_}
@@ -16,23 +17,23 @@ use Rattle.hash.specs.Constants.{walk, offsets, constant}
 use Rattle.hash.specs.Keccak.{rotated, inverted, lane, each, state, C, D, θ, ρ, π, χ, ι, round, rounds, keccak-f}
 use Rattle.hash.proofs.Each.{length-each, Filled, filled-next}
 
--- the lane at place i is that of its column and row
+-- The lane at place i is that of its column and row.
 pub lane-place : (s : List ℕ) (i : ℕ) → i < 25 → lane s (i % 5) (i / 5) ≡ getD s i 0
 unfolding lane
 lane-place s i h =
     let e : 5 * (i / 5 % 5) + i % 5 % 5 ≡ i = omega arith in
     ap (λ (k : ℕ). getD s k 0) e
 
--- χ's lane
+-- The lane of χ.
 abbrev pub chosen : List ℕ → ℕ → ℕ → ℕ
 chosen s x y = bitXor (lane s x y) (bitAnd (inverted (lane s (x + 1) y)) (lane s (x + 2) y))
 
--- each offset is less than a lane's width
+-- Each offset is less than a lane's width.
 pub offsets-below : Below 64 offsets
 unfolding offsets walk
 offsets-below = below-test 64 offsets (omega arith) tt
 
--- one round more
+-- One round more.
 pub rounds-next : (n : ℕ) (s : List ℕ) → rounds (n + 1) s ≡ round (constant n) (rounds n s)
 unfolding rounds
 rounds-next n s = ap (λ (k : ℕ). rounds k s) (add-one n)
@@ -49,12 +50,12 @@ length-rounds : (n : ℕ) (s : List ℕ) → length (rounds (suc n) s) ≡ 25
 unfolding rounds
 length-rounds n s = length-round (constant n) (rounds n s)
 
--- what is permuted has 25 lanes
+-- What is permuted has 25 lanes.
 pub length-keccak-f : (s : List ℕ) → length (keccak-f s) ≡ 25
 unfolding keccak-f
 length-keccak-f s = length-rounds 23 s
 
--- a left shift keeps the low bits
+-- A left shift keeps the low bits.
 shifted-left : (k a : ℕ) → k ≤ 64 → a * 2 ^ k % 2 ^ 64 ≡ a % 2 ^ (64 - k) * 2 ^ k
 shifted-left k a h =
     let e : 64 ≡ 64 - k + k = omega arith in
@@ -63,7 +64,7 @@ shifted-left k a h =
     ∙ ap₂ (λ (x y : ℕ). x % 2 ^ (64 - k) * 2 ^ k + y) (shl-shr a k) (mul-mod-left a (2 ^ k))
     ∙ add-zero (a % 2 ^ (64 - k) * 2 ^ k)
 
--- a rotation is a pair of shifts
+-- A rotation is a pair of shifts.
 pub shift-pair : (n a : ℕ) → n < 64 → a < 2 ^ 64 → bitOr (a * 2 ^ n % 2 ^ 64) (a / 2 ^ ((64 - n) % 64)) ≡ rotated n a
 unfolding rotated
 shift-pair zero a hn ha =
@@ -78,14 +79,14 @@ shift-pair (suc m) a hn ha =
     ap₂ bitOr (shifted-left n a (omega arith)) (ap (λ (x : ℕ). a / 2 ^ x) e)
     ∙ or-shifted (a % 2 ^ (64 - n)) n (a / 2 ^ (64 - n)) (shr-lt n (64 - n) h)
 
--- a column's number counts modulo 5
+-- A column's number counts modulo 5.
 column-mod : (s : List ℕ) (x : ℕ) → C s x ≡ C s (x % 5)
 unfolding C lane
 column-mod s x =
     let e : x % 5 % 5 ≡ x % 5 = omega arith in
     rw e
 
--- what θ adds to the five columns, from their parities and these rotated by one
+-- What θ adds to the five columns, from their parities and these rotated by one.
 pub effects-are : (s : List ℕ) (c₀ c₁ c₂ c₃ c₄ r₀ r₁ r₂ r₃ r₄ : ℕ)
     → c₀ ≡ C s 0 → c₁ ≡ C s 1 → c₂ ≡ C s 2 → c₃ ≡ C s 3 → c₄ ≡ C s 4
     → r₀ ≡ rotated 1 c₀ → r₁ ≡ rotated 1 c₁ → r₂ ≡ rotated 1 c₂ → r₃ ≡ rotated 1 c₃ → r₄ ≡ rotated 1 c₄
@@ -94,7 +95,7 @@ unfolding each D
 effects-are s c₀ c₁ c₂ c₃ c₄ r₀ r₁ r₂ r₃ r₄ p₀ p₁ p₂ p₃ p₄ q₀ q₁ q₂ q₃ q₄ =
     cc (column-mod s 5, column-mod s 6, column-mod s 7, column-mod s 8)
 
--- a store of χ's lane at i, from the lane and the two after it in its row, at j and k
+-- A store of χ's lane at i, from the lane and the two after it in its row, at j and k.
 pub chosen-next : (s b : List ℕ) (i j k n : ℕ) → Filled (chosen s) b i
     → (i < 25) × (5 * (i / 5) + (i % 5 + 1) % 5 ≡ j) × (5 * (i / 5) + (i % 5 + 2) % 5 ≡ k) × (i + 1 ≡ n)
     → Filled (chosen s) (set b i (bitXor (getD s i 0) (bitAnd (inverted (getD s j 0)) (getD s k 0)))) n

@@ -1,13 +1,14 @@
 -- Laws on a list that is written, element after element or in two parts, by the kit's laws of take, drop and set.
 -- Assumes nothing.
 use mathlib.Core.Path.{_≡_, sym, ap, ap₂, _∙_}
-use mathlib.Core.List.{List, [], _∷_, _++_, append-nil}
+use mathlib.Core.List.{List, [], _∷_, _++_, append-nil, append-assoc}
 use Prim.Native.Nat.{ℕ, _+_, _-_, _≤_, _<_}
 use native.Mathlib.Nat.{le-of-eq}
 use native.Mathlib.Numerals.{add-one}
-use lib.ListN.{length, take, drop, getD, set, length-drop, drop-of-length-le}
-use lib.Seq.{take-suc, take-suc-set, take-all, take-at}
-use borrow.Rule.Slice.PartMut.{putMid}
+use native.Mathlib.Omega.{arith}
+use lib.ListN.{length, take, drop, getD, set, length-append, length-drop, drop-of-length-le, take-append-drop}
+use lib.Seq.{take-suc, take-suc-set, take-all, take-at, length-take-le, drop-drop}
+use borrow.Rule.Slice.PartMut.{putMid, same-len-mid, drop-put}
 
 module _ {A : Type 0} where
   -- Where the first j elements agree, and the next is written as it should be, the first j + 1 agree.
@@ -33,3 +34,36 @@ module _ {A : Type 0} where
   rest-written m l ys =
       ap (λ (r : List A). take m l ++ (ys ++ r)) (drop-of-length-le (drop m l) (le-of-eq (length-drop m l)))
       ∙ ap (λ (r : List A). take m l ++ r) (append-nil ys)
+
+  -- A part of n elements at `at` that was lent and came back as ys: what precedes it, and then ys.
+  pub part-written : (at n : ℕ) (l ys : List A) → at + n ≤ length l → length ys ≡ n
+      → take (at + n) (putMid at (at + n - at) l ys) ≡ take at l ++ ys
+  part-written at n l ys h e =
+      ap (take (at + n)) (sym (append-assoc (take at l) ys _))
+      ∙ take-at (take at l ++ ys) _ (at + n)
+      (length-append (take at l) ys ∙ ap₂ _+_ (length-take-le at l (omega arith)) e)
+
+  -- A part of n elements that lies within the list has n.
+  pub lent-length : (at n : ℕ) (l : List A) → at + n ≤ length l → length (take (at + n - at) (drop at l)) ≡ n
+  lent-length at n l h =
+      let k : at + n - at ≡ n = omega arith in
+      rw k (length-take-le n (drop at l) (simp length-drop (omega arith)))
+
+  -- The whole keeps its length.
+  pub part-length : (at n : ℕ) (l ys : List A) → at + n ≤ length l → length ys ≡ n
+      → length (putMid at (at + n - at) l ys) ≡ length l
+  part-length at n l ys h e = same-len-mid at (at + n - at) l ys (e ∙ sym (lent-length at n l h))
+
+  -- What follows the part stays.
+  pub part-rest : (at n : ℕ) (l ys : List A) → at + n ≤ length l → length ys ≡ n
+      → drop (at + n) (putMid at (at + n - at) l ys) ≡ drop (at + n) l
+  part-rest at n l ys h e = drop-put at (at + n) l ys (omega arith) h (e ∙ omega arith)
+
+  -- The part, and what follows it, is what stands from `at` on.
+  pub lent-split : (at n : ℕ) (l : List A) → drop at l ≡ take (at + n - at) (drop at l) ++ drop (at + n) l
+  lent-split at n l =
+      sym (take-append-drop (at + n - at) (drop at l))
+      ∙ ap (λ (x : List A). take (at + n - at) (drop at l) ++ x) (drop-drop (at + n - at) at l ∙ ap (λ (k : ℕ). drop k l) places)
+    where
+      places : at + (at + n - at) ≡ at + n
+      places = omega arith

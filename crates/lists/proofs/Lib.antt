@@ -5,3 +5,4 @@ pub mod Below
 pub mod Xor
 pub mod Bits
 pub mod Filling
+pub mod Lent

@@ -3,7 +3,7 @@
 use mathlib.Core.Path.{_≡_, refl, sym, ap, _∙_}
 use mathlib.Core.List.{List, [], _∷_, _++_}
 use Prim.Native.Nat.{ℕ, zero, suc, _+_, _-_, _*_, _≤_, _<_}
-use native.Mathlib.Nat.{suc-ne-zero, suc-mul, add-comm, mul-le-mul-right}
+use native.Mathlib.Nat.{suc-ne-zero, suc-mul, add-comm, mul-le-mul-right, sub-zero}
 use native.Mathlib.Omega.{arith}
 use lib.ListN.{length, take, drop, replicate, length-drop, length-replicate}
 use lib.Seq.{take-at, drop-at, take-take, length-take-le, drop-drop}
@@ -42,11 +42,17 @@ module _ {A : Type 0} where
       ap (λ (x : ℕ). drop x (a ++ b)) (suc-mul j n ∙ add-comm (j * n) n)
       ∙ sym (drop-drop (j * n) n (a ++ b)) ∙ ap (drop (j * n)) (drop-at a b n e)
 
--- The first n of k zeros, as a part that starts at 0 is written.
+-- The first n of k equal numbers, as a part that starts at 0 is written.
+pub same-part : (x n k : ℕ) → n ≤ k → take (n - 0) (replicate k x) ≡ replicate n x
+same-part x n k h = ap (λ (m : ℕ). take m (replicate k x)) (sub-zero n) ∙ same-front n k h
+  where
+    same-front : (n k : ℕ) → n ≤ k → take n (replicate k x) ≡ replicate n x
+    same-front zero k h = refl
+    same-front (suc n) zero h = absurd (omega arith)
+    same-front (suc n) (suc k) h = ap (λ (l : List ℕ). x ∷ l) (same-front n k (omega arith))
+
 pub zeros-part : (n k : ℕ) → n ≤ k → length {A = ℕ} (take (n - 0) (replicate k 0)) ≡ n
-zeros-part n k h =
-    let e : n - 0 ≡ n = omega arith in
-    rw e (length-take-le n (replicate {A = ℕ} k 0) (rw length-replicate h))
+zeros-part n k h = ap length (same-part 0 n k h) ∙ length-replicate n 0
 
 -- A front part that was lent and filled with g of its length.
 pub front-part : (g : ℕ → List ℕ) (n : ℕ) {m : ℕ} {ys : List ℕ} (rest : List ℕ) → ys ≡ g m → length ys ≡ m → m ≡ n

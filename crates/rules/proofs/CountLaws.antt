@@ -40,12 +40,12 @@ module _ (w : Hashes) (k : Kind) where
   unfolding count
   one g p x = add-zero (is k (of g))
 
-  chain-count : (at : ℕ → Place) (x : Bytes) (i s : ℕ) → count k (chain w at x i s .calls) ≡ s * is k (of F)
+  pub chain-count : (at : ℕ → Place) (x : Bytes) (i s : ℕ) → count k (chain w at x i s .calls) ≡ s * is k (of F)
   unfolding chain count
   chain-count at x i zero = sym (zero-mul (is k (of F)))
   chain-count at x i (suc s) = let r = chain-count at (w .hash F (address (at i)) x) (suc i) s in omega (arith, r)
 
-  climb-count : (place : ℕ → ℕ → Place) (m z i : ℕ) (v auth : Bytes)
+  pub climb-count : (place : ℕ → ℕ → Place) (m z i : ℕ) (v auth : Bytes)
       → count k (climb w place m z i v auth .calls) ≡ m * is k (of H)
   unfolding climb count
   climb-count place zero z i v auth = sym (zero-mul (is k (of H)))
@@ -54,7 +54,7 @@ module _ (w : Hashes) (k : Kind) where
       let r = climb-count place m (suc z) (i / 2) u (drop (w .n) auth) in
       omega (arith, r)
 
-  walk-count : (l t p c : ℕ) (ds : List ℕ) (sig : Bytes)
+  pub walk-count : (l t p c : ℕ) (ds : List ℕ) (sig : Bytes)
       → count k (walk w l t p c ds sig .calls) ≡ steps ds * is k (of F)
   unfolding walk count steps
   walk-count l t p c [] sig = sym (zero-mul (is k (of F)))
@@ -64,14 +64,14 @@ module _ (w : Hashes) (k : Kind) where
       (ended (walk w l t p (suc c) ds (drop (w .n) sig)) _ (walk-count l t p (suc c) ds (drop (w .n) sig)))
       ∙ sym (add-mul (15 - d) (steps ds) (is k (of F)))
 
-  leaf-count : (l t i : ℕ) (sig M : Bytes)
+  pub leaf-count : (l t i : ℕ) (sig M : Bytes)
       → count k (leafFrom w l t i sig M .calls) ≡ steps (chainDigits (w .n) M) * is k (of F) + is k (of T)
   unfolding leafFrom
   leaf-count l t i sig M =
       count-append k (walk w l t i 0 (chainDigits (w .n) M) sig .calls) _
       ∙ ap₂ _+_ (walk-count l t i 0 (chainDigits (w .n) M) sig) (one T (chainEnds l t i) _)
 
-  layer-count : (h' l t i : ℕ) (sig M : Bytes) → count k (layerRoot w h' l t i sig M .calls)
+  pub layer-count : (h' l t i : ℕ) (sig M : Bytes) → count k (layerRoot w h' l t i sig M .calls)
       ≡ steps (chainDigits (w .n) M) * is k (of F) + is k (of T) + h' * is k (of H)
   unfolding layerRoot
   layer-count h' l t i sig M =
@@ -79,7 +79,7 @@ module _ (w : Hashes) (k : Kind) where
       ∙ ap₂ _+_ (leaf-count l t i (take (chainBytes (w .n)) sig) M)
       (climb-count (treeNode l t) h' 0 i _ (drop (chainBytes (w .n)) sig))
 
-  forest-walk-count : (t p a j : ℕ) (xs : List ℕ) (sig : Bytes) → count k (forestWalk w t p a j xs sig .calls)
+  pub forest-walk-count : (t p a j : ℕ) (xs : List ℕ) (sig : Bytes) → count k (forestWalk w t p a j xs sig .calls)
       ≡ length xs * is k (of F) + (length xs * a) * is k (of H)
   unfolding forestWalk count
   forest-walk-count t p a j [] sig = omega arith
@@ -91,7 +91,7 @@ module _ (w : Hashes) (k : Kind) where
       (forest-walk-count t p a (suc j) xs (drop (treeBytes (w .n) a) sig))))
       ∙ omega arith
 
-  forest-count : (t p a : ℕ) (xs : List ℕ) (sig : Bytes) → count k (forestRoot w t p a xs sig .calls)
+  pub forest-count : (t p a : ℕ) (xs : List ℕ) (sig : Bytes) → count k (forestRoot w t p a xs sig .calls)
       ≡ length xs * is k (of F) + (length xs * a) * is k (of H) + is k (of T)
   unfolding forestRoot
   forest-count t p a xs sig =

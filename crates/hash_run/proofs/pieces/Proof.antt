@@ -1,4 +1,5 @@
--- After each turn the sponge is that fed the bytes passed, however they were cut.
+-- `pieces` is SHAKE256 of its message: after each turn the sponge is that fed the bytes passed, however they were cut.
+-- Assumes nothing.
 use mathlib.Core.Path.{_≡_, sym, ap, _∙_}
 use Prim.Native.Nat.{ℕ, _+_, _-_, _≤_, _<_}
 use native.Mathlib.Omega.{arith}
@@ -47,7 +48,6 @@ returns c =
 pub pieces-spec : {M : Type 1} → statement M
 pieces-spec =
     tie.close
-    (tie.spec
-    Inv-loop μ-loop loop-holds (λ c κs. search needs) (λ c. search needs) (λ c. search needs) (λ c. search needs)
-    (λ c κs. search needs) (λ c. search needs) (λ c. search needs) loop-again (λ c κs. search needs)
+    (tie.spec Inv-loop μ-loop loop-holds (λ c κs. search needs) (λ c. search needs) (λ c. search needs)
+    (λ c. search needs) (λ c κs. search needs) (λ c. search needs) (λ c. search needs) loop-again (λ c κs. search needs)
     (λ c κs. search needs) (λ c. search needs) returns)

@@ -1,4 +1,5 @@
--- χ, a row a turn: each of the five stores is the next lane of the definition.
+-- `chi` is χ, a row a turn: each of the five stores is the next lane of the definition.
+-- Assumes nothing.
 use mathlib.Core.Path.{_≡_, refl}
 use Prim.Native.Nat.{_+_, _-_, _%_}
 use native.Mathlib.Omega.{arith}
@@ -38,8 +39,7 @@ returns c = filled-end (chosen _) _ _ (c .before .loop .inv .0) (c .loop-test .l
 pub chi-spec : {M : Type 1} → statement M
 chi-spec =
     tie.close
-    (tie.spec
-    Inv-loop μ-loop loop-holds (λ c. search needs) (λ c. search needs) (λ c. search needs) (λ c. search needs)
+    (tie.spec Inv-loop μ-loop loop-holds (λ c. search needs) (λ c. search needs) (λ c. search needs) (λ c. search needs)
     (λ c. search needs) (λ c. search needs) (λ c. search needs) (λ c. search needs) (λ c. search needs)
     (λ c. search needs) (λ c. search needs) (λ c. search needs) (λ c. search needs) (λ c. search needs)
     (λ c. search needs) (λ c. search needs) (λ c. search needs) (λ c. search needs) (λ c. search needs)

@@ -1,4 +1,5 @@
--- What θ adds to each column is made of two parities: by the law on plain numbers.
+-- `effects` is what θ adds to each column, two parities: by the law on plain numbers.
+-- Assumes nothing.
 use borrow.Author.Needs.{needs}
 use Rattle.hash.proofs.Rounds.{effects-are}
 use Rattle.hash.proofs.keccak.effects.Statement.{statement}
@@ -21,7 +22,6 @@ returns c =
 pub effects-spec : {M : Type 1} → statement M
 effects-spec =
     tie.close
-    (tie.spec
-    (λ c κs. search needs) (λ c κs. search needs) (λ c κs. search needs) (λ c κs. search needs)
-    (λ c κs. search needs) (λ c κs. search needs) (λ c κs. search needs) (λ c κs. search needs)
-    (λ c κs. search needs) (λ c κs. search needs) returns)
+    (tie.spec (λ c κs. search needs) (λ c κs. search needs) (λ c κs. search needs) (λ c κs. search needs)
+    (λ c κs. search needs) (λ c κs. search needs) (λ c κs. search needs) (λ c κs. search needs) (λ c κs. search needs)
+    (λ c κs. search needs) returns)

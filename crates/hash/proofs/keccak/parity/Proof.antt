@@ -1,4 +1,5 @@
--- The parity of a column is that of its five places, x below 5 being its own remainder.
+-- `parity` is the parity of a column: its five places are the definition's, since x below 5 is its own remainder.
+-- Assumes nothing.
 use mathlib.Core.Path.{_≡_}
 use Prim.Native.Nat.{_%_}
 use native.Mathlib.Omega.{arith}
@@ -18,7 +19,6 @@ returns c =
 pub parity-spec : {M : Type 1} → statement M
 parity-spec =
     tie.close
-    (tie.spec
-    (λ c. search needs) (λ c. search needs) (λ c. search needs) (λ c. search needs) (λ c. search needs)
+    (tie.spec (λ c. search needs) (λ c. search needs) (λ c. search needs) (λ c. search needs) (λ c. search needs)
     (λ c. search needs) (λ c. search needs) (λ c. search needs) (λ c. search needs) (λ c. search needs)
     (λ c. search needs) (λ c. search needs) (λ c. search needs) (λ c. search needs) returns)

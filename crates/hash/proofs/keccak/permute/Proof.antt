@@ -1,5 +1,6 @@
--- The permutation is its rounds: after i turns the state is that of the first i, with the table of constants that
--- the standard's register gives.
+-- `permute` is all the rounds: after i turns the state is that of the first i, and the table of constants is what the
+-- standard's register gives.
+-- Assumes nothing.
 use mathlib.Core.Path.{_≡_, refl, sym, ap, ap₂, _∙_}
 use Prim.Native.Nat.{ℕ, _-_, _≤_}
 use mathlib.Core.List.{List}
@@ -19,7 +20,7 @@ Inv-loop s₀ t i₀ s i = (t ≡ each constant 0 24) × (i ≤ 24) × (s ≡ ro
 abbrev μ-loop : tie.MeasureT-loop
 μ-loop s₀ t i₀ s i = 24 - i
 
--- the table is what the standard's register gives, by computation
+-- The table is what the standard's register gives, by computation.
 loop-holds : tie.Need-loop-holds Inv-loop μ-loop
 unfolding rounds each constant constantBits rc register
 loop-holds c = (refl, omega arith, refl)
@@ -40,6 +41,5 @@ returns c =
 pub permute-spec : {M : Type 1} → statement M
 permute-spec =
     tie.close
-    (tie.spec
-    Inv-loop μ-loop loop-holds (λ c. search needs) (λ c. search needs) (λ c κs. search needs) (λ c. search needs)
-    (λ c. search needs) loop-again returns)
+    (tie.spec Inv-loop μ-loop loop-holds (λ c. search needs) (λ c. search needs) (λ c κs. search needs)
+    (λ c. search needs) (λ c. search needs) loop-again returns)

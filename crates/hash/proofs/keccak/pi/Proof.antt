@@ -1,4 +1,5 @@
--- π only moves lanes, so both sides compute to the same 25 lanes.
+-- `pi` is π: it only moves lanes, so both sides compute to the same 25.
+-- Assumes nothing.
 use mathlib.Core.Path.{refl}
 use borrow.Author.Needs.{needs}
 use Rattle.hash.specs.Keccak.{π, each, state, lane}
@@ -12,8 +13,7 @@ returns c = refl
 pub pi-spec : {M : Type 1} → statement M
 pi-spec =
     tie.close
-    (tie.spec
-    (λ c. search needs) (λ c. search needs) (λ c. search needs) (λ c. search needs) (λ c. search needs)
+    (tie.spec (λ c. search needs) (λ c. search needs) (λ c. search needs) (λ c. search needs) (λ c. search needs)
     (λ c. search needs) (λ c. search needs) (λ c. search needs) (λ c. search needs) (λ c. search needs)
     (λ c. search needs) (λ c. search needs) (λ c. search needs) (λ c. search needs) (λ c. search needs)
     (λ c. search needs) (λ c. search needs) (λ c. search needs) (λ c. search needs) (λ c. search needs)

@@ -1,4 +1,5 @@
--- ρ, lane by lane, with the table of offsets that the standard's walk gives.
+-- `rho` is ρ, lane by lane, since its table of offsets is what the standard's walk gives.
+-- Assumes nothing.
 use mathlib.Core.Path.{_≡_, refl, sym, ap, ap₂, _∙_, subst⁻¹}
 use Prim.Native.Nat.{ℕ, _+_, _-_, _<_}
 use mathlib.Core.List.{List}
@@ -22,7 +23,7 @@ Inv-loop a o b₀ i₀ b i = (o ≡ offsets) × (Filled (turned a) b i)
 abbrev μ-loop : tie.MeasureT-loop
 μ-loop a o b₀ i₀ b i = 25 - i
 
--- the table is what the standard's walk gives, by computation
+-- The table is what the standard's walk gives, by computation.
 loop-holds : tie.Need-loop-holds Inv-loop μ-loop
 unfolding offsets walk
 loop-holds c = (refl, filled-start (turned (c .args .a .now)))
@@ -48,7 +49,5 @@ returns c = filled-end (turned _) _ _ (c .before .loop .inv .1) (c .loop-test .l
 pub rho-spec : {M : Type 1} → statement M
 rho-spec =
     tie.close
-    (tie.spec
-    Inv-loop μ-loop loop-holds (λ c. search needs) (λ c. search needs) (λ c. search needs) (λ c. search needs)
-    rotate-requires (λ c. search needs) (λ c. search needs) (λ c. search needs) (λ c. search needs) loop-again
-    returns)
+    (tie.spec Inv-loop μ-loop loop-holds (λ c. search needs) (λ c. search needs) (λ c. search needs) (λ c. search needs)
+    rotate-requires (λ c. search needs) (λ c. search needs) (λ c. search needs) (λ c. search needs) loop-again returns)

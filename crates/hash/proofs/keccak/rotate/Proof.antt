@@ -1,4 +1,5 @@
--- A rotation is a left shift joined with a right shift; at 0 both are the lane itself.
+-- `rotate` is a rotation: a left shift joined with a right shift, and at 0 both are the lane itself.
+-- Assumes nothing.
 use borrow.Author.Needs.{needs}
 use Rattle.hash.proofs.Rounds.{shift-pair}
 use Rattle.hash.proofs.keccak.rotate.Statement.{statement}
@@ -10,5 +11,4 @@ returns c = shift-pair (c .args .n) (c .args .a) (c .pre) (c .fits .a .fits)
 pub rotate-spec : {M : Type 1} → statement M
 rotate-spec =
     tie.close
-    (tie.spec
-    (λ c. search needs) (λ c. search needs) (λ c. search needs) (λ c. search needs) returns)
+    (tie.spec (λ c. search needs) (λ c. search needs) (λ c. search needs) (λ c. search needs) returns)

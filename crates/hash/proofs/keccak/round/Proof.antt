@@ -1,4 +1,5 @@
--- A round is the five steps, each by its function's contract.
+-- `round` is the five steps, each by its function's contract.
+-- Assumes nothing.
 use borrow.Author.Needs.{needs}
 use Rattle.hash.specs.Keccak.{round, ι}
 use Rattle.hash.proofs.keccak.round.Statement.{statement}
@@ -14,6 +15,5 @@ returns c =
 pub round-spec : {M : Type 1} → statement M
 round-spec =
     tie.close
-    (tie.spec
-    (λ c κs. search needs) (λ c κs. search needs) (λ c κs. search needs) (λ c κs. search needs) (λ c. search needs)
-    (λ c. search needs) returns)
+    (tie.spec (λ c κs. search needs) (λ c κs. search needs) (λ c κs. search needs) (λ c κs. search needs)
+    (λ c. search needs) (λ c. search needs) returns)

@@ -1,4 +1,5 @@
--- θ, lane by lane: each store is the next lane of the definition.
+-- `theta` is θ, lane by lane: each store is the next lane of the definition.
+-- Assumes nothing.
 use mathlib.Core.Path.{refl, sym, ap, ap₂, _∙_}
 use Prim.Native.Nat.{ℕ, _+_, _-_, _%_, _<_}
 use mathlib.Core.List.{List}
@@ -42,7 +43,6 @@ returns c = filled-end (added _) _ _ (c .before .loop .inv) (c .loop-test .left)
 pub theta-spec : {M : Type 1} → statement M
 theta-spec =
     tie.close
-    (tie.spec
-    Inv-loop μ-loop (λ c κs. search needs) loop-holds (λ c. search needs) (λ c. search needs) (λ c. search needs)
-    (λ c. search needs) (λ c. search needs) (λ c. search needs) (λ c. search needs) (λ c. search needs) loop-again
-    returns)
+    (tie.spec Inv-loop μ-loop (λ c κs. search needs) loop-holds (λ c. search needs) (λ c. search needs)
+    (λ c. search needs) (λ c. search needs) (λ c. search needs) (λ c. search needs) (λ c. search needs)
+    (λ c. search needs) loop-again returns)

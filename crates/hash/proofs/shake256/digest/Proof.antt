@@ -1,4 +1,5 @@
--- One piece absorbed, finished and squeezed is SHAKE256 of it: by the law `shaken`.
+-- `digest` is SHAKE256: one piece absorbed, finished and squeezed is that by the law `shaken`.
+-- Assumes nothing.
 use borrow.Author.Needs.{needs}
 use Rattle.hash.proofs.Laws.{shaken}
 use Rattle.hash.proofs.shake256.digest.Statement.{statement}
@@ -10,5 +11,4 @@ returns c = rw shaken (cc)
 pub digest-spec : {M : Type 1} → statement M
 digest-spec =
     tie.close
-    (tie.spec
-    (λ c κs. search needs) (λ c κs. search needs) (λ c κs. search needs) (λ c. search needs) returns)
+    (tie.spec (λ c κs. search needs) (λ c κs. search needs) (λ c κs. search needs) (λ c. search needs) returns)

@@ -1,11 +1,12 @@
--- After each turn the sponge is that fed the bytes passed.
+-- `absorb` feeds its bytes: after each turn the sponge is that fed the bytes passed.
+-- Assumes nothing.
 use mathlib.Core.Path.{_≡_, refl, ap, _∙_}
 use Prim.Native.Nat.{_-_, _≤_}
 use native.Mathlib.Omega.{arith}
 use lib.ListN.{length, take}
 use lib.Seq.{take-all}
 use borrow.Author.Needs.{needs}
-use Rattle.hash.specs.Stream.{sponge, turn, feed}
+use Rattle.hash.specs.Stream.{sponge, feed}
 use Rattle.hash.proofs.Stream.{feed-next}
 use Rattle.hash.proofs.sponge.absorb.Statement.{statement}
 use Rattle.hash.proofs.sponge.absorb.Tie as tie
@@ -38,6 +39,5 @@ returns c = c .before .loop .inv .1 ∙ ap (feed _ _) (take-all _ _ (c .loop-tes
 pub absorb-spec : {M : Type 1} → statement M
 absorb-spec =
     tie.close
-    (tie.spec
-    Inv-loop μ-loop loop-holds (λ c κs. search needs) (λ c κs. search needs) (λ c. search needs) (λ c. search needs)
-    (λ c. search needs) loop-again returns)
+    (tie.spec Inv-loop μ-loop loop-holds (λ c κs. search needs) (λ c κs. search needs) (λ c. search needs)
+    (λ c. search needs) (λ c. search needs) loop-again returns)

@@ -1,4 +1,5 @@
--- Eight bytes go into a lane at once, or one byte goes in, as the stream has it.
+-- `absorb_next` feeds eight bytes or one, since eight go into a lane at once as they go one by one.
+-- Assumes nothing.
 use mathlib.Core.Path.{sym}
 use Prim.Native.Nat.{_<_}
 use native.Mathlib.Omega.{arith}
@@ -38,6 +39,5 @@ returns-2 c =
 pub absorb-next-spec : {M : Type 1} → statement M
 absorb-next-spec =
     tie.close
-    (tie.spec
-    (λ c. search needs) (λ c. search needs) (λ c. search needs) (λ c κs. search needs) (λ c. search needs)
+    (tie.spec (λ c. search needs) (λ c. search needs) (λ c. search needs) (λ c κs. search needs) (λ c. search needs)
     (λ c. search needs) returns (λ c. search needs) (λ c κs. search needs) returns-2)

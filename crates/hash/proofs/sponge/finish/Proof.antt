@@ -1,6 +1,7 @@
--- The suffix and the padding's two ones are two bytes added to the last block.
+-- `finish` ends the message: the suffix and the padding's two ones are two bytes added to the last block.
+-- Assumes nothing.
 use borrow.Author.Needs.{needs}
-use Rattle.hash.specs.Stream.{turn, close, finish}
+use Rattle.hash.specs.Stream.{close, finish}
 use Rattle.hash.proofs.sponge.finish.Statement.{statement}
 use Rattle.hash.proofs.sponge.finish.Tie as tie
 
@@ -13,5 +14,4 @@ returns c =
 pub finish-spec : {M : Type 1} → statement M
 finish-spec =
     tie.close
-    (tie.spec
-    (λ c κs. search needs) (λ c κs. search needs) (λ c. search needs) (λ c κs. search needs) returns)
+    (tie.spec (λ c κs. search needs) (λ c κs. search needs) (λ c. search needs) (λ c κs. search needs) returns)

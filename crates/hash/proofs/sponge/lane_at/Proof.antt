@@ -1,5 +1,6 @@
--- Eight bytes make a lane, from the highest down: the value so far is that of the bytes passed, and there is room
--- for one more.
+-- `lane_at` is a lane of eight bytes, from the highest down: the value so far is that of the bytes passed, and there is
+-- room for one more.
+-- Assumes nothing.
 use mathlib.Core.Path.{_≡_, refl, sym, ap₂, _∙_}
 use Prim.Native.Nat.{ℕ, _+_, _-_, _*_, _^_, _≤_, _<_}
 use native.Mathlib.Omega.{arith}
@@ -21,7 +22,7 @@ loop-holds : tie.Need-loop-holds Inv-loop μ-loop
 unfolding number
 loop-holds c = (omega arith, refl)
 
--- there is room for a byte more
+-- There is room for a byte more.
 room : (c : tie.In-loop Inv-loop μ-loop) → c .before .loop .w < 2 ^ 56
 room c =
     let l = c .before .loop in
@@ -30,14 +31,10 @@ room c =
     rw (l .inv .1) (number-room (a .m .now) b (a .i) (l .k) (omega arith))
 
 mul-w : tie.Need-mul-w Inv-loop μ-loop
-mul-w c =
-    let g = room c in
-    omega arith
+mul-w c = omega (arith, room c)
 
 add-w : tie.Need-add-w Inv-loop μ-loop
-add-w c =
-    let g = room (c .before) in
-    omega arith
+add-w c = omega (arith, room (c .before))
 
 loop-again : tie.Need-loop-again Inv-loop μ-loop
 loop-again c =
@@ -59,6 +56,5 @@ returns c =
 pub lane-at-spec : {M : Type 1} → statement M
 lane-at-spec =
     tie.close
-    (tie.spec
-    Inv-loop μ-loop loop-holds (λ c. search needs) mul-w (λ c. search needs) (λ c κs. search needs) add-w
+    (tie.spec Inv-loop μ-loop loop-holds (λ c. search needs) mul-w (λ c. search needs) (λ c κs. search needs) add-w
     (λ c. search needs) loop-again returns)

@@ -1,4 +1,5 @@
--- A byte is added to a lane at its place, since shifting it loses nothing.
+-- `mix` adds a byte to a lane at its place, since shifting it loses nothing.
+-- Assumes nothing.
 use Prim.Native.Nat.{_*_, _%_}
 use native.Mathlib.Omega.{arith}
 use borrow.Author.Needs.{needs}
@@ -14,6 +15,5 @@ returns c = rw (shifted (c .before .args .b) (8 * (c .before .args .at % 8)) (om
 pub mix-spec : {M : Type 1} → statement M
 mix-spec =
     tie.close
-    (tie.spec
-    (λ c. search needs) (λ c. search needs) (λ c. search needs) (λ c. search needs) (λ c. search needs)
+    (tie.spec (λ c. search needs) (λ c. search needs) (λ c. search needs) (λ c. search needs) (λ c. search needs)
     (λ c. search needs) returns)

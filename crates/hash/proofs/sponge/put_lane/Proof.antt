@@ -1,4 +1,5 @@
--- The bytes put, with those that the rest of the lane still holds, are the lane's.
+-- `put_lane` writes a lane's bytes: those put, with those that the rest of the lane still holds, are the lane's.
+-- Assumes nothing.
 use mathlib.Core.Path.{_≡_, refl, sym, ap, _∙_}
 use Prim.Native.Nat.{ℕ, _+_, _-_, _/_, _≤_}
 use mathlib.Core.List.{_++_, append-nil}
@@ -34,9 +35,6 @@ loop-again c =
           ∙ store-next (l .out) i (l .k) (l .rest) (omega arith) (omega arith) ∙ l .inv .2,
     )
 
-same-length : tie.Need-same-length Inv-loop μ-loop
-same-length c = c .before .loop .inv .1
-
 returns : tie.Need-returns Inv-loop μ-loop
 unfolding digits
 returns c =
@@ -51,6 +49,5 @@ returns c =
 pub put-lane-spec : {M : Type 1} → statement M
 put-lane-spec =
     tie.close
-    (tie.spec
-    Inv-loop μ-loop loop-holds (λ c κs. search needs) (λ c. search needs) (λ c. search needs) (λ c. search needs)
-    (λ c. search needs) loop-again same-length returns)
+    (tie.spec Inv-loop μ-loop loop-holds (λ c κs. search needs) (λ c. search needs) (λ c. search needs)
+    (λ c. search needs) (λ c. search needs) loop-again (λ c. search needs) returns)

@@ -1,4 +1,5 @@
--- After each turn the bytes out are those drawn, and the sponge is past them.
+-- `squeeze` draws its bytes: after each turn the bytes out are those drawn, and the sponge is past them.
+-- Assumes nothing.
 use mathlib.Core.Path.{_≡_, refl, sym, ap, _∙_}
 use Prim.Native.Nat.{ℕ, _-_, _≤_, _<_}
 use native.Mathlib.Omega.{arith}
@@ -41,9 +42,6 @@ loop-again c =
       draw-next (a .rate) z k (l .i) n (omega arith) (l .inv .2) (t .ensures .0) (l .inv .3) (g .ensures .1),
     )
 
-same-length : tie.Need-same-length Inv-loop μ-loop
-same-length c = c .before .loop .inv .1
-
 returns : tie.Need-returns Inv-loop μ-loop
 returns c =
     let l = c .before .loop in
@@ -56,6 +54,5 @@ returns c =
 pub squeeze-spec : {M : Type 1} → statement M
 squeeze-spec =
     tie.close
-    (tie.spec
-    Inv-loop μ-loop loop-holds (λ c κs. search needs) (λ c κs. search needs) (λ c. search needs) (λ c. search needs)
-    loop-less loop-again same-length returns)
+    (tie.spec Inv-loop μ-loop loop-holds (λ c κs. search needs) (λ c κs. search needs) (λ c. search needs)
+    (λ c. search needs) loop-less loop-again (λ c. search needs) returns)

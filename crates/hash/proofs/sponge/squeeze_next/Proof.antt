@@ -1,4 +1,5 @@
--- Eight bytes come out of a lane at once, or one byte comes out, as the stream has it.
+-- `squeeze_next` draws eight bytes or one, since eight come out of a lane at once as they come one by one.
+-- Assumes nothing.
 use mathlib.Core.Path.{sym, ap, _∙_}
 use Prim.Native.Nat.{ℕ}
 use mathlib.Core.List.{List, [], _∷_, _++_}
@@ -35,6 +36,6 @@ returns-2 c =
 pub squeeze-next-spec : {M : Type 1} → statement M
 squeeze-next-spec =
     tie.close
-    (tie.spec
-    (λ c. search needs) (λ c. search needs) (λ c. search needs) (λ c κs. search needs) (λ c. search needs) returns
-    (λ c. search needs) (λ c. search needs) (λ c κs. search needs) (λ c. search needs) (λ c. search needs) returns-2)
+    (tie.spec (λ c. search needs) (λ c. search needs) (λ c. search needs) (λ c κs. search needs) (λ c. search needs)
+    returns (λ c. search needs) (λ c. search needs) (λ c κs. search needs) (λ c. search needs) (λ c. search needs)
+    returns-2)

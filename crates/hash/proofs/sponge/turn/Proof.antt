@@ -1,4 +1,5 @@
--- A turn permutes past the rate and does nothing below it.
+-- `turn` is the stream's turn: it permutes past the rate and does nothing below it.
+-- Assumes nothing.
 use mathlib.Core.Path.{sym}
 use native.Mathlib.Omega.{arith}
 use borrow.Author.Needs.{needs}

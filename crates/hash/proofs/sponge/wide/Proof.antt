@@ -1,4 +1,5 @@
--- A byte of a slice is a number below 256.
+-- `wide` is a byte of a slice as a number below 256, by what is known of each byte.
+-- Assumes nothing.
 use mathlib.Core.Path.{refl}
 use native.Mathlib.Omega.{arith}
 use borrow.Author.Needs.{needs}

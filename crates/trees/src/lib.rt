@@ -1,0 +1,2 @@
+pub mod climbs;
+pub mod groves;
