@@ -79,6 +79,18 @@ pub fn secret_in(kit: Kit, seed: &[u8], adrs: Address, sk: &[u8], out: &mut [u8]
     call(seed, adrs, sk, out);
 }
 
+// F of a value.
+pub fn f(kit: Kit, seed: &[u8], adrs: Address, input: &[u8]) -> [u8; 32]
+    requires { ⌜ kit .n ≤ 32 ⌝ }
+    ensures { λ r. ⌜ take (kit .n) r
+        ≡ familyOf kit .hash Function.F (now (seed .entry)) (bytesOf adrs) (now (input .entry)) ⌝ }
+{
+    let n = kit.n;
+    let mut out = [0u8; 32];
+    call(seed, adrs, input, &mut out[0..n]);
+    out
+}
+
 // H of two values.
 pub fn h(kit: Kit, seed: &[u8], adrs: Address, left: &[u8], right: &[u8]) -> [u8; 32]
     requires { ⌜ kit .n ≤ 32 ⌝ }

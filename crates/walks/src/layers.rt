@@ -1,0 +1,58 @@
+// The layers from their parts of a seal (FIPS 205, algorithms 11 and 13).
+ghost use mathlib.Core.Path.{_≡_};
+ghost use Prim.Native.Nat.{_+_, _*_, _^_, _≤_, _<_};
+ghost use lib.ListN.{length, take, drop};
+ghost use Rattle.rules.specs.Calls.{Kind, Function};
+ghost use Rattle.rules.specs.Chains.{chains};
+ghost use Rattle.rules.specs.Layers.{layerRoot};
+ghost use Rattle.rules.specs.Counts.{count};
+ghost use Rattle.calls.specs.Hashes.{hashesOf};
+use calls::hashes::Kit;
+use chains::Spot;
+use chains::Walked;
+use chains::leaf_from;
+use trees::climbs::climb;
+use trees::groves::Grove;
+
+// The root of a layer's tree, from its part of a seal, for the value m that leaf i seals.
+pub fn layer_root(
+    kit: Kit,
+    seed: &[u8],
+    layer: u32,
+    tree: u64,
+    i: u32,
+    hp: u32,
+    sig: &[u8],
+    m: &[u8],
+) -> Walked
+    requires { ⌜ (kit .n ≤ 32) × (length (now sig) ≡ chains (kit .n) * kit .n + hp * kit .n) × (length (now m) ≡ kit .n) ⌝ }
+    ensures { λ r. ⌜ take (kit .n) (r .value) ≡ layerRoot (hashesOf kit (now (seed .entry))) hp layer tree i
+        (now (sig .entry)) (now (m .entry)) .result ⌝ }
+    ensures { λ r. ⌜ r .calls ≡ count (Kind.of Function.F) (layerRoot (hashesOf kit (now (seed .entry))) hp layer tree i
+        (now (sig .entry)) (now (m .entry)) .calls) ⌝ }
+    ensures { λ r. ⌜ length (r .value) ≡ 32 ⌝ }
+{
+    let n = kit.n;
+    let size = (2 * n + 3) * n;
+    let spot = Spot {
+        layer: layer,
+        tree: tree,
+        pair: i,
+    };
+    let low = leaf_from(kit, seed, spot, &sig[0..size], m);
+    let calls = low.calls;
+    let leaf = low.value;
+    let value = climb(
+        kit,
+        seed,
+        Grove::Layer(layer, tree),
+        hp,
+        i,
+        leaf,
+        &sig[size..],
+    );
+    Walked {
+        value: value,
+        calls: calls,
+    }
+}
