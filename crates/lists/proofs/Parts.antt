@@ -3,10 +3,10 @@
 use mathlib.Core.Path.{_≡_, refl, sym, ap, _∙_}
 use mathlib.Core.List.{List, [], _∷_, _++_}
 use Prim.Native.Nat.{ℕ, zero, suc, _+_, _-_, _*_, _≤_, _<_}
-use native.Mathlib.Nat.{suc-ne-zero, suc-mul, add-comm, mul-le-mul-right, sub-zero}
+use native.Mathlib.Nat.{suc-ne-zero, suc-mul, add-comm, mul-le-mul-right, sub-zero, zero-add, suc-add}
 use native.Mathlib.Omega.{arith}
 use lib.ListN.{length, take, drop, replicate, length-drop, length-replicate}
-use lib.Seq.{take-at, drop-at, take-take, length-take-le, drop-drop}
+use lib.Seq.{take-at, drop-at, take-take, take-nil, length-take-le, drop-drop}
 
 module _ {A : Type 0} where
   -- A list of no elements is empty.
@@ -27,6 +27,12 @@ module _ {A : Type 0} where
   take-drop-take n (suc j) zero l h = absurd (omega arith)
   take-drop-take n (suc j) (suc K) [] h = refl
   take-drop-take n (suc j) (suc K) (x ∷ l) h = take-drop-take n j K l (omega arith)
+
+  -- The rest of a front is a front of the rest.
+  pub drop-take : (n k : ℕ) (l : List A) → drop n (take (n + k) l) ≡ take k (drop n l)
+  drop-take zero k l = ap (λ (x : ℕ). take x l) (zero-add k)
+  drop-take (suc n) k [] = ap (λ (x : ℕ). drop (suc n) (take x [])) (suc-add n k) ∙ sym (take-nil k)
+  drop-take (suc n) k (x ∷ l) = ap (λ (y : ℕ). drop (suc n) (take y (x ∷ l))) (suc-add n k) ∙ drop-take n k l
 
   -- A part that lies within a list has the length asked for.
   pub length-part : (n j : ℕ) (l : List A) → j + n ≤ length l → length (take n (drop j l)) ≡ n

@@ -1,2 +1,4 @@
 pub mod GroveLaws
 pub mod ClimbLaws
+pub mod NodeLaws
+pub mod PathLaws

@@ -1,2 +1,4 @@
 pub mod climbs;
 pub mod groves;
+pub mod nodes;
+pub mod paths;

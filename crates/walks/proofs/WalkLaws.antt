@@ -1,16 +1,21 @@
 -- The laws of a check's walks on plain values: a layer is its leaf and the climb from it, and the climb makes no F call.
 -- Assumes nothing.
 use mathlib.Core.Path.{_≡_, sym, ap, ap₂, _∙_}
-use Prim.Native.Nat.{ℕ, _-_, _*_}
-use native.Mathlib.Nat.{sub-zero, add-zero, mul-zero}
+use mathlib.Core.List.{List, [], _∷_, _++_, append-assoc, append-nil}
+use Prim.Native.Nat.{ℕ, suc, _+_, _-_, _*_, _^_, _≤_, _<_}
+use native.Mathlib.Nat.{sub-zero, le-trans, mul-le-mul-left, mul-le-mul-right}
+use native.Mathlib.Numerals.{add-one}
 use native.Mathlib.Omega.{arith}
-use lib.ListN.{length, take, drop}
+use lib.ListN.{length, take, drop, getD, drop-of-length-le}
+use lib.Seq.{take-take, drop-drop, drop-cons}
 use Rattle.lists.proofs.Filling.{rest-read}
+use Rattle.lists.proofs.Parts.{drop-take}
 use Rattle.rules.specs.Places.{Bytes, treeNode, forestNode, address}
 use Rattle.rules.specs.Calls.{F, of, Hashes}
 use Rattle.rules.specs.Chains.{chains, leafFrom}
 use Rattle.rules.specs.Trees.{climb}
 use Rattle.rules.specs.Layers.{chainBytes, layerRoot}
+use Rattle.rules.specs.Forest.{treeBytes, forestWalk}
 use Rattle.rules.specs.Counts.{is, count}
 use Rattle.rules.proofs.CountLaws.{leaf-count, layer-count}
 
@@ -43,3 +48,47 @@ module _ (w : Hashes) where
         → calls ≡ count (of F) (layerRoot w h' l t i sig m .calls)
     unfolding is
     layer-calls front e = e ∙ leaf-count w (of F) l t i front m ∙ sym (layer-count w (of F) h' l t i sig m ∙ omega arith)
+
+-- ---- The trees of the forest
+
+module _ (w : Hashes) (t p a : ℕ) where
+  -- What a tree's part leads to at leaf i of all trees.
+  abbrev rootOf : (i : ℕ) (part : Bytes) → Bytes
+  rootOf i part =
+      climb w (forestNode t p) a 0 i (w .hash F (address (forestNode t p 0 i)) (take (w .n) part)) (drop (w .n) part) .result
+
+  -- Tree j's root is worked out from the first bytes that are left.
+  first-root : (i : ℕ) (X : Bytes) → rootOf i (take (w .n + a * w .n) X)
+      ≡ climb w (forestNode t p) a 0 i (w .hash F (address (forestNode t p 0 i)) (take (w .n) X))
+      (take (a * w .n) (drop (w .n) X)) .result
+  first-root i X =
+      ap₂ (λ x y. climb w (forestNode t p) a 0 i (w .hash F (address (forestNode t p 0 i)) x) y .result)
+      (take-take (w .n) (w .n + a * w .n) X (omega arith)) (drop-take (w .n) (a * w .n) X)
+
+  -- A turn of the roots: tree j's, and then the rest.
+  roots-step : (ds : List ℕ) (j : ℕ) (X : Bytes) → j < length ds → forestWalk w t p a j (drop j ds) X .result
+      ≡ rootOf (j * 2 ^ a + getD ds j 0) (take (w .n + a * w .n) X)
+      ++ forestWalk w t p a (j + 1) (drop (j + 1) ds) (drop (w .n + a * w .n) X) .result
+  unfolding forestWalk treeBytes
+  roots-step ds j X h =
+      rw (drop-cons ds j 0 h, add-one j, first-root (j * 2 ^ a + getD ds j 0) X)
+
+  pub roots-turn : (ds : List ℕ) (j i at : ℕ) (sig done v : Bytes) {whole : Bytes} → j < length ds
+      → i ≡ j * 2 ^ a + getD ds j 0 → v ≡ rootOf i (take (w .n + a * w .n) (drop at sig))
+      → done ++ forestWalk w t p a j (drop j ds) (drop at sig) .result ≡ whole
+      → (done ++ v) ++ forestWalk w t p a (j + 1) (drop (j + 1) ds) (drop (at + (w .n + a * w .n)) sig) .result ≡ whole
+  roots-turn ds j i at sig done v h e f q =
+      append-assoc done v _
+      ∙ ap (λ x. done ++ x) (ap₂ _++_ (f ∙ ap (λ k. rootOf k (take (w .n + a * w .n) (drop at sig))) e)
+      (ap (λ x. forestWalk w t p a (j + 1) (drop (j + 1) ds) x .result) (sym (drop-drop (w .n + a * w .n) at sig)))
+      ∙ sym (roots-step ds j (drop at sig) h))
+      ∙ q
+
+  pub roots-end : (ds : List ℕ) (j : ℕ) (out rest : Bytes) {whole : Bytes} → length ds ≤ j
+      → out ++ forestWalk w t p a j (drop j ds) rest .result ≡ whole → out ≡ whole
+  unfolding forestWalk
+  roots-end ds j out rest h q = rw (drop-of-length-le ds h, append-nil) at q
+
+-- A row's height times its n fits a word.
+pub small-product : (a n : ℕ) → a < 2 ^ 32 → n ≤ 32 → a * n ≤ 2 ^ 32 * 32
+small-product a n h l = le-trans (mul-le-mul-left a l) (mul-le-mul-right {m = a} {n = 2 ^ 32} 32 (omega arith))
