@@ -53,7 +53,7 @@ module _ (w : Hashes) where
 
 module _ (w : Hashes) (t p a : ℕ) where
   -- What a tree's part leads to at leaf i of all trees.
-  abbrev rootOf : (i : ℕ) (part : Bytes) → Bytes
+  abbrev pub rootOf : (i : ℕ) (part : Bytes) → Bytes
   rootOf i part =
       climb w (forestNode t p) a 0 i (w .hash F (address (forestNode t p 0 i)) (take (w .n) part)) (drop (w .n) part) .result
 
