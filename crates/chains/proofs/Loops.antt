@@ -62,7 +62,8 @@ module _ (w : Hashes) (l t p : ℕ) (sk : Bytes) where
   unfolding shown ends
   shown-ends c zero = refl
   shown-ends c (suc k) =
-      shown-cons w l t p sk c 15 (replicate k 15) ∙ ap (λ (x : Bytes). ownChain w l t p sk c 15 ++ x) (shown-ends (suc c) k)
+      shown-cons w l t p sk c 15 (replicate k 15)
+      ∙ ap (λ (x : Bytes). ownChain w l t p sk c 15 ++ x) (shown-ends (suc c) k)
       ∙ sym (ends-suc w l t p sk c k)
 
 -- ---- The walk to the ends
@@ -75,7 +76,8 @@ module _ (w : Hashes) (l t p : ℕ) where
       → (front ++ ys) ++ walk w l t p (i + 1) (drop (i + 1) ds) rest .result ≡ whole
   unfolding walk
   walk-turn ds i front x ys rest h long e q =
-      rw (append-assoc, e, add-one i) (rw (drop-cons ds i 0 h, take-at x rest (w .n) long, drop-at x rest (w .n) long) at q)
+      rw (append-assoc, e, add-one i)
+      (rw (drop-cons ds i 0 h, take-at x rest (w .n) long, drop-at x rest (w .n) long) at q)
 
   pub walk-end : (ds : List ℕ) (i : ℕ) (out rest : Bytes) {whole : Bytes} → length ds ≤ i
       → out ++ walk w l t p i (drop i ds) rest .result ≡ whole → out ≡ whole

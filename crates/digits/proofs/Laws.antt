@@ -33,7 +33,8 @@ pub number-fits : (x : List ℕ) (i : ℕ) → Below 256 x → length x ≤ 8 �
     → toInt (take i x) * 256 + getD x i 0 < 2 ^ 64
 number-fits x i b l h =
     rw (← value-suc i x h)
-    (value-fits 8 64 (take (suc i) x) (below-take 256 (suc i) x (omega arith) b) (rw (length-take-le (suc i) x h) (omega arith)))
+    (value-fits 8 64 (take (suc i) x) (below-take 256 (suc i) x (omega arith) b)
+    (rw (length-take-le (suc i) x h) (omega arith)))
 
 -- ---- One digit
 

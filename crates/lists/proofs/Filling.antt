@@ -63,7 +63,8 @@ module _ {A : Type 0} where
   pub lent-split : (at n : ℕ) (l : List A) → drop at l ≡ take (at + n - at) (drop at l) ++ drop (at + n) l
   lent-split at n l =
       sym (take-append-drop (at + n - at) (drop at l))
-      ∙ ap (λ (x : List A). take (at + n - at) (drop at l) ++ x) (drop-drop (at + n - at) at l ∙ ap (λ (k : ℕ). drop k l) places)
+      ∙ ap (λ (x : List A). take (at + n - at) (drop at l) ++ x)
+      (drop-drop (at + n - at) at l ∙ ap (λ (k : ℕ). drop k l) places)
     where
       places : at + (at + n - at) ≡ at + n
       places = omega arith

@@ -49,7 +49,8 @@ value-take j xs b h =
     ap (λ (v : ℕ). v / 2 ^ (8 * (length xs - j)))
     (ap toInt (sym (take-append-drop j xs)) ∙ value-append 8 (take j xs) (drop j xs))
     ∙ rw (length-drop j xs)
-    (high (toInt (take j xs)) (8 * (length xs - j)) (rw (length-drop j xs) at (value-lt 8 (drop j xs) (below-drop 256 j xs b))))
+    (high (toInt (take j xs)) (8 * (length xs - j))
+    (rw (length-drop j xs) at (value-lt 8 (drop j xs) (below-drop 256 j xs b))))
 
 -- The first e bits of the first n bytes are those of the whole.
 pub value-front : (X : List ℕ) (n e : ℕ) → Below 256 X → n ≤ length X → e ≤ 8 * n

@@ -36,8 +36,8 @@ loop-again c =
       omega arith,
       c .before .before .f-in .kept .1 .1 .1 .0 ∙ l .inv .1,
       chain-turn (hashesOf (a .kit) (a .seed .now)) (chainStep (a .spot .layer) (a .spot .tree) (a .spot .pair) (a .c))
-          (a .start) (a .steps) (l .k) (l .io) (omega arith) (turn .address-at .ensures) (c .before .before .f-in .ensures)
-          (l .inv .2),
+          (a .start) (a .steps) (l .k) (l .io) (omega arith) (turn .address-at .ensures)
+          (c .before .before .f-in .ensures) (l .inv .2),
     )
 
 returns : tie.Need-returns Inv-loop μ-loop

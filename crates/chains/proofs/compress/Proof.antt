@@ -15,8 +15,10 @@ returns c =
     let s = c .before .before .before .before .before .before in
     let a = s .args in
     let t = c .before .t-in in
-    take-at (t .last .1 .1 .1 .1 .0) _ (a .kit .n) (t .kept .1 .1 .1 .1 .0 ∙ zeros-part (a .kit .n) 32 (s .pre)) ∙ t .ensures
-    ∙ ap (λ x. hashesOf (a .kit) (a .seed .now) .hash T x (a .ends .now)) (c .before .before .before .address-at .ensures)
+    take-at (t .last .1 .1 .1 .1 .0) _ (a .kit .n) (t .kept .1 .1 .1 .1 .0 ∙ zeros-part (a .kit .n) 32 (s .pre))
+    ∙ t .ensures
+    ∙ ap (λ x. hashesOf (a .kit) (a .seed .now) .hash T x (a .ends .now))
+    (c .before .before .before .address-at .ensures)
 
 pub compress-spec : {M : Type 1} → statement M
 compress-spec =

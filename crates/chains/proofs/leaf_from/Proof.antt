@@ -29,4 +29,5 @@ pub leaf-from-spec : {M : Type 1} → statement M
 leaf-from-spec =
     tie.close
     (tie.spec (λ c. search needs) (λ c. search needs) (λ c. search needs) (λ c. search needs) (λ c. search needs)
-    (λ c. search needs) (λ c. search needs) (λ c. search needs) part-ends-end leaf-from-over-requires (λ c. search needs))
+    (λ c. search needs) (λ c. search needs) (λ c. search needs) part-ends-end leaf-from-over-requires
+    (λ c. search needs))

@@ -35,7 +35,8 @@ returns c =
     let w = hashesOf (a .kit) (a .seed .now) in
     let ds = read .chain-digits .ensures ∙ ap (λ k. chainDigits k (a .m .now)) (s .pre .0 .value-long) in
     let sig =
-    put-whole (a .ends .now) (a .sig .now) _ _ (s .pre .1 .1 ∙ sym (s .pre .0 .sig-long)) (put .kept .0) (put .ensures) in
+    put-whole (a .ends .now) (a .sig .now) _ _ (s .pre .1 .1 ∙ sym (s .pre .0 .sig-long)) (put .kept .0)
+    (put .ensures) in
     let value =
     from-made w (a .spot .layer) (a .spot .tree) (a .spot .pair) (a .sig .now) (a .m .now) ds sig
     (walked .walk-in .ensures .0) (c .compress .ensures) in

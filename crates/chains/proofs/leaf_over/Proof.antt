@@ -12,8 +12,8 @@ returns : tie.Need-returns
 returns c =
     let late = c .before .before .before .before in
     let a = late .before .before .before .before .before .before .args in
-    c .compress .ensures
-    ∙ ap (hashesOf (a .kit) (a .seed .now) .hash T (address (chainEnds (a .spot .layer) (a .spot .tree) (a .spot .pair)))) (late .shown-in .ensures)
+    let place = address (chainEnds (a .spot .layer) (a .spot .tree) (a .spot .pair)) in
+    c .compress .ensures ∙ ap (hashesOf (a .kit) (a .seed .now) .hash T place) (late .shown-in .ensures)
 
 pub leaf-over-spec : {M : Type 1} → statement M
 leaf-over-spec =

@@ -18,7 +18,8 @@ returns c =
     let late = c .before .before .before .before .before .before in
     let a = late .before .before .before .before .before .before .args in
     own-made (hashesOf (a .kit) (a .seed .now)) (a .spot .layer) (a .spot .tree) (a .spot .pair) (a .sk .now) (a .c)
-    (a .steps) (late .before .before .address-at .ensures) (late .secret-in .ensures) (c .before .before .chain-in .ensures .0)
+    (a .steps) (late .before .before .address-at .ensures) (late .secret-in .ensures)
+    (c .before .before .chain-in .ensures .0)
 
 pub own-chain-spec : {M : Type 1} → statement M
 own-chain-spec =

@@ -28,10 +28,15 @@ abbrev μ-loop : tie.MeasureT-loop
 
 -- In a turn there is room for the next value.
 room : (c : tie.In-loop Inv-loop μ-loop)
-    → c .before .loop .at + c .before .before .before .before .before .before .args .kit .n ≤ length (c .before .loop .out)
+    → c .before .loop .at + c .before .before .before .before .before .before .args .kit .n
+    ≤ length (c .before .loop .out)
 room c =
     let s = c .before .before .before .before .before .before in
-    omega (arith, piece-room (c .before .loop .i) (length (s .args .ds .now)) (s .args .kit .n) (c .loop-test .taken), s .pre .0)
+    omega (
+      arith,
+      piece-room (c .before .loop .i) (length (s .args .ds .now)) (s .args .kit .n) (c .loop-test .taken),
+      s .pre .0,
+    )
 
 loop-holds : tie.Need-loop-holds Inv-loop μ-loop
 loop-holds c = (omega arith, omega arith, refl, refl)
@@ -42,8 +47,9 @@ cast-i c = omega (arith, c .before .before .before .before .before .before .pre 
 own-chain-requires : tie.Need-own-chain-requires Inv-loop μ-loop
 own-chain-requires c κs =
     let turn = c .before .before in
+    let l = turn .before .loop in
     let s = turn .before .before .before .before .before .before in
-    (lent-length (turn .before .loop .at) (s .args .kit .n) (turn .before .loop .out) (room turn), s .pre .2 (turn .before .loop .i))
+    (lent-length (l .at) (s .args .kit .n) (l .out) (room turn), s .pre .2 (l .i))
 
 loop-again : tie.Need-loop-again Inv-loop μ-loop
 loop-again c =
@@ -51,13 +57,15 @@ loop-again c =
     let l = turn .before .loop in
     let a = turn .before .before .before .before .before .before .args in
     let ys = c .before .before .own-chain .last .1 .1 .1 .1 .1 .1 .0 in
-    let long = c .before .before .own-chain .kept .1 .1 .1 .1 .1 .1 .0 ∙ lent-length (l .at) (a .kit .n) (l .out) (room turn) in (
+    let lent = lent-length (l .at) (a .kit .n) (l .out) (room turn) in
+    let long = c .before .before .own-chain .kept .1 .1 .1 .1 .1 .1 .0 ∙ lent in (
       omega arith,
       omega arith,
       part-length (l .at) (a .kit .n) (l .out) ys (room turn) long ∙ l .inv .2,
       rw (part-written (l .at) (a .kit .n) (l .out) ys (room turn) long)
-          (shown-turn (hashesOf (a .kit) (a .seed .now)) (a .spot .layer) (a .spot .tree) (a .spot .pair) (a .sk .now) (a .ds .now)
-          (l .i) (take (l .at) (l .out)) ys (turn .loop-test .taken) (c .before .before .own-chain .ensures) (l .inv .3)),
+          (shown-turn (hashesOf (a .kit) (a .seed .now)) (a .spot .layer) (a .spot .tree) (a .spot .pair) (a .sk .now)
+          (a .ds .now) (l .i) (take (l .at) (l .out)) ys (turn .loop-test .taken)
+          (c .before .before .own-chain .ensures) (l .inv .3)),
     )
 
 returns : tie.Need-returns Inv-loop μ-loop
@@ -67,13 +75,14 @@ returns c =
     let a = s .args in
     let done : l .i ≡ length (a .ds .now) = omega arith in
     let full : length (l .out) ≤ l .at = omega (arith, l .inv .1, ap (λ x. x * a .kit .n) done, l .inv .2, s .pre .0) in
-    shown-end (hashesOf (a .kit) (a .seed .now)) (a .spot .layer) (a .spot .tree) (a .spot .pair) (a .sk .now) (a .ds .now)
-    (l .i) (l .out) (omega arith) (rw (take-all (l .at) (l .out) full) at (l .inv .3))
+    shown-end (hashesOf (a .kit) (a .seed .now)) (a .spot .layer) (a .spot .tree) (a .spot .pair) (a .sk .now)
+    (a .ds .now) (l .i) (l .out) (omega arith) (rw (take-all (l .at) (l .out) full) at (l .inv .3))
 
 pub shown-in-spec : {M : Type 1} → statement M
 shown-in-spec =
     tie.close
     (tie.spec Inv-loop μ-loop loop-holds cast-i (λ c. search needs) (λ c. search needs)
-    (λ c. omega (arith, room (c .before))) (λ c. search needs) (λ c. search needs) (λ c. omega (arith, room (c .before)))
-    own-chain-requires (λ c. omega (arith, room (c .before .before .before .before .before))) (λ c. search needs) (λ c. search needs) loop-again
-    (λ c. c .before .loop .inv .2) returns)
+    (λ c. omega (arith, room (c .before))) (λ c. search needs) (λ c. search needs)
+    (λ c. omega (arith, room (c .before))) own-chain-requires
+    (λ c. omega (arith, room (c .before .before .before .before .before))) (λ c. search needs) (λ c. search needs)
+    loop-again (λ c. c .before .loop .inv .2) returns)

@@ -89,9 +89,10 @@ loop-again c =
       omega arith,
       part-length (l .at) n (l .io) ys (room turn) long ∙ l .inv .2,
       rw (part-written (l .at) n (l .io) ys (room turn) long, part-rest (l .at) n (l .io) ys (room turn) long)
-          (walk-turn (hashesOf (a .kit) (a .seed .now)) (a .spot .layer) (a .spot .tree) (a .spot .pair) (a .ds .now) (l .i)
-          (take (l .at) (l .io)) (take (l .at + n - l .at) (drop (l .at) (l .io))) ys (drop (l .at + n) (l .io))
-          (turn .loop-test .taken) lent (c .before .before .chain-in .ensures .0) (rw (lent-split (l .at) n (l .io)) at (l .inv .3))),
+          (walk-turn (hashesOf (a .kit) (a .seed .now)) (a .spot .layer) (a .spot .tree) (a .spot .pair) (a .ds .now)
+          (l .i) (take (l .at) (l .io)) (take (l .at + n - l .at) (drop (l .at) (l .io))) ys (drop (l .at + n) (l .io))
+          (turn .loop-test .taken) lent (c .before .before .chain-in .ensures .0)
+          (rw (lent-split (l .at) n (l .io)) at (l .inv .3))),
       omega (arith, made c, steps-turn (a .ds .now) (l .i) (turn .loop-test .taken), l .inv .4),
     )
 
@@ -102,7 +103,8 @@ returns c =
     let a = s .args in
     let w = hashesOf (a .kit) (a .seed .now) in
     let done : l .i ≡ length (a .ds .now) = omega arith in
-    let full : length (l .io) ≤ l .at = omega (arith, l .inv .1, ap (λ x. x * a .kit .n) done, l .inv .2, s .pre .0) in (
+    let size = ap (λ x. x * a .kit .n) done in
+    let full : length (l .io) ≤ l .at = omega (arith, l .inv .1, size, l .inv .2, s .pre .0) in (
       walk-end w (a .spot .layer) (a .spot .tree) (a .spot .pair) (a .ds .now) (l .i) (l .io) (drop (l .at) (l .io))
           (omega arith) (rw (take-all (l .at) (l .io) full) at (l .inv .3)),
       (omega (arith, l .inv .4, steps-end (a .ds .now) (l .i) (omega arith)))
@@ -113,8 +115,8 @@ pub walk-in-spec : {M : Type 1} → statement M
 walk-in-spec =
     tie.close
     (tie.spec Inv-loop μ-loop loop-holds (λ c. search needs) (λ c. search needs)
-    (λ c. omega (arith, c .before .before .before .before .before .before .pre .1)) (λ c. omega (arith, digit (c .before)))
-    (λ c. omega (arith, room (c .before))) (λ c. search needs) (λ c. search needs)
-    (λ c. omega (arith, room (c .before))) chain-in-requires add-calls
+    (λ c. omega (arith, c .before .before .before .before .before .before .pre .1))
+    (λ c. omega (arith, digit (c .before))) (λ c. omega (arith, room (c .before))) (λ c. search needs)
+    (λ c. search needs) (λ c. omega (arith, room (c .before))) chain-in-requires add-calls
     (λ c. omega (arith, room (c .before .before .before .before .before))) (λ c. search needs) (λ c. search needs)
     loop-again (λ c. c .before .loop .inv .2) returns)

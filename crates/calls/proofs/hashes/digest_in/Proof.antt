@@ -17,7 +17,8 @@ returns c =
     let a = s .args in
     let x = a .before .now ++ a .message .now in
     four-joined (a .r .now) (a .seed .now) (a .root .now) x _
-    (late .before .before .absorb-two .ensures) (late .absorb .ensures) (c .before .before .before .before .before .absorb-two2 .ensures) (c .before .before .end .ensures)
+    (late .before .before .absorb-two .ensures) (late .absorb .ensures)
+    (c .before .before .before .before .before .absorb-two2 .ensures) (c .before .before .end .ensures)
     ∙ ap (λ n. shake256 (a .r .now ++ (a .seed .now ++ (a .root .now ++ x))) n) (s .pre)
 
 pub digest-in-spec : {M : Type 1} → statement M
