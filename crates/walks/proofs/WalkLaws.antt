@@ -1,4 +1,5 @@
--- The laws of a check's walks on plain values: a layer is its leaf and the climb from it, and the climb makes no F call.
+-- The laws of a check's walks on plain values: a layer is its leaf and the climb from it, and so is a forest's tree;
+-- the climb makes no F call.
 -- Assumes nothing.
 use mathlib.Core.Path.{_≡_, sym, ap, ap₂, _∙_}
 use mathlib.Core.List.{List, [], _∷_, _++_, append-assoc, append-nil}
@@ -28,7 +29,8 @@ module _ (w : Hashes) where
   pub tree-made : (t p a i n : ℕ) (part : Bytes) {at leaf root : Bytes} → at ≡ address (forestNode t p 0 i)
       → leaf ≡ w .hash F at (take (n - 0) part)
       → root ≡ climb w (forestNode t p) a 0 i leaf (take (length part - n) (drop n part)) .result
-      → root ≡ climb w (forestNode t p) a 0 i (w .hash F (address (forestNode t p 0 i)) (take n part)) (drop n part) .result
+      → root ≡ climb w (forestNode t p) a 0 i (w .hash F (address (forestNode t p 0 i)) (take n part)) (drop n part)
+      .result
   tree-made t p a i n part e f g =
       g ∙ ap₂ (λ v auth. climb w (forestNode t p) a 0 i v auth .result)
       (f ∙ ap₂ (λ x y. w .hash F x y) e (front n part)) (rest-read n part)
@@ -42,12 +44,14 @@ module _ (w : Hashes) where
     unfolding layerRoot chainBytes
     layer-made f g =
         g ∙ ap₂ (λ v auth. climb w (treeNode l t) h' 0 i v auth .result)
-        (f ∙ ap (λ x. leafFrom w l t i x m .result) (front (chains (w .n) * w .n) sig)) (rest-read (chains (w .n) * w .n) sig)
+        (f ∙ ap (λ x. leafFrom w l t i x m .result) (front (chains (w .n) * w .n) sig))
+        (rest-read (chains (w .n) * w .n) sig)
 
     pub layer-calls : (front : Bytes) {calls : ℕ} → calls ≡ count (of F) (leafFrom w l t i front m .calls)
         → calls ≡ count (of F) (layerRoot w h' l t i sig m .calls)
     unfolding is
-    layer-calls front e = e ∙ leaf-count w (of F) l t i front m ∙ sym (layer-count w (of F) h' l t i sig m ∙ omega arith)
+    layer-calls front e =
+        e ∙ leaf-count w (of F) l t i front m ∙ sym (layer-count w (of F) h' l t i sig m ∙ omega arith)
 
 -- ---- The trees of the forest
 
@@ -55,7 +59,8 @@ module _ (w : Hashes) (t p a : ℕ) where
   -- What a tree's part leads to at leaf i of all trees.
   abbrev pub rootOf : (i : ℕ) (part : Bytes) → Bytes
   rootOf i part =
-      climb w (forestNode t p) a 0 i (w .hash F (address (forestNode t p 0 i)) (take (w .n) part)) (drop (w .n) part) .result
+      climb w (forestNode t p) a 0 i (w .hash F (address (forestNode t p 0 i)) (take (w .n) part)) (drop (w .n) part)
+      .result
 
   -- Tree j's root is worked out from the first bytes that are left.
   first-root : (i : ℕ) (X : Bytes) → rootOf i (take (w .n + a * w .n) X)

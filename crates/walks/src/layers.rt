@@ -25,7 +25,8 @@ pub fn layer_root(
     sig: &[u8],
     m: &[u8],
 ) -> Walked
-    requires { ⌜ (kit .n ≤ 32) × (length (now sig) ≡ chains (kit .n) * kit .n + hp * kit .n) × (length (now m) ≡ kit .n) ⌝ }
+    requires { ⌜ (kit .n ≤ 32) × (length (now m) ≡ kit .n)
+        × (length (now sig) ≡ chains (kit .n) * kit .n + hp * kit .n) ⌝ }
     ensures { λ r. ⌜ take (kit .n) (r .value) ≡ layerRoot (hashesOf kit (now (seed .entry))) hp layer tree i
         (now (sig .entry)) (now (m .entry)) .result ⌝ }
     ensures { λ r. ⌜ r .calls ≡ count (Kind.of Function.F) (layerRoot (hashesOf kit (now (seed .entry))) hp layer tree i

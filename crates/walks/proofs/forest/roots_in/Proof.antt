@@ -42,8 +42,19 @@ room c =
     let l = c .before .loop in
     let many = length (a .ds .now) in
     record {
-      part-left = omega (arith, piece-room (l .j) many (a .kit .n + a .a * a .kit .n) (c .loop-test .taken), s .pre .1 .0, l .inv .2);
-      root-room = omega (arith, piece-room (l .j) many (a .kit .n) (c .loop-test .taken), s .pre .1 .1, l .inv .3, l .inv .4);
+      part-left = omega (
+        arith,
+        piece-room (l .j) many (a .kit .n + a .a * a .kit .n) (c .loop-test .taken),
+        s .pre .1 .0,
+        l .inv .2,
+      );
+      root-room = omega (
+        arith,
+        piece-room (l .j) many (a .kit .n) (c .loop-test .taken),
+        s .pre .1 .1,
+        l .inv .3,
+        l .inv .4,
+      );
       leaf-room = omega (arith, piece-room (l .j) many (a .size) (c .loop-test .taken), l .inv .1);
     }
 
@@ -79,7 +90,8 @@ tree-root-requires c κs =
     let turn = c .before .before in
     let s = turn .before .before .before .before .before .before in
     let a = s .args in
-    (s .pre .0 .0, lent-length (turn .before .loop .at) (a .kit .n + a .a * a .kit .n) (a .sig .now) (room turn .part-left))
+    let step = a .kit .n + a .a * a .kit .n in
+    (s .pre .0 .0, lent-length (turn .before .loop .at) step (a .sig .now) (room turn .part-left))
 
 put-requires : tie.Need-put-requires Inv-loop μ-loop
 put-requires c κs =
@@ -109,7 +121,9 @@ loop-again c =
     let long : length (take (n - 0) v) ≡ n = ap length front ∙ length-take-le n v (omega (arith, s .pre .0 .0)) in
     let leaf : i ≡ l .j * 2 ^ a .a + getD (a .ds .now) (l .j) 0 =
     ap (λ x. x + getD (a .ds .now) (l .j) 0) (l .inv .1 ∙ ap (λ x. l .j * x) (s .pre .0 .1)) in
-    let root = front ∙ rooted .tree-root .ensures ∙ ap (rootOf w (a .tree) (a .pair) (a .a) i) (lent (l .at) step (a .sig .now)) in (
+    let root =
+    front ∙ rooted .tree-root .ensures
+    ∙ ap (rootOf w (a .tree) (a .pair) (a .a) i) (lent (l .at) step (a .sig .now)) in (
       omega arith,
       omega (arith, l .inv .1),
       omega (arith, l .inv .2),
@@ -127,14 +141,16 @@ returns c =
     let s = c .before .before .before .before .before .before in
     let a = s .args in
     let done : l .j ≡ length (a .ds .now) = omega arith in
-    let full : length (l .out) ≤ l .o = omega (arith, l .inv .3, ap (λ x. x * a .kit .n) done, l .inv .4, s .pre .1 .1) in
+    let ends = ap (λ x. x * a .kit .n) done in
+    let full : length (l .out) ≤ l .o = omega (arith, l .inv .3, ends, l .inv .4, s .pre .1 .1) in
     roots-end (hashesOf (a .kit) (a .seed .now)) (a .tree) (a .pair) (a .a) (a .ds .now) (l .j) (l .out)
     (drop (l .at) (a .sig .now)) (omega arith) (rw (take-all (l .o) (l .out) full) at (l .inv .5))
 
 pub roots-in-spec : {M : Type 1} → statement M
 roots-in-spec =
     tie.close
-    (tie.spec Inv-loop μ-loop mul-step add-step loop-holds (λ c. omega (arith, room c .part-left)) (λ c. search needs) (λ c. search needs)
-    add-leaf (λ c. search needs) (λ c. search needs) (λ c. omega (arith, room (c .before) .part-left)) tree-root-requires (λ c. search needs)
+    (tie.spec Inv-loop μ-loop mul-step add-step loop-holds (λ c. omega (arith, room c .part-left)) (λ c. search needs)
+    (λ c. search needs) add-leaf (λ c. search needs) (λ c. search needs)
+    (λ c. omega (arith, room (c .before) .part-left)) tree-root-requires (λ c. search needs)
     (λ c. search needs) (λ c. search needs) put-requires add-base (λ c. search needs) (λ c. search needs) loop-again
     (λ c. c .before .loop .inv .4) returns)
