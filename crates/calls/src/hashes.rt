@@ -61,15 +61,6 @@ fn call(seed: &[u8], adrs: Address, input: &[u8], out: &mut [u8])
     end(&mut s, q, out);
 }
 
-// T of joined values.
-pub fn t_in(kit: Kit, seed: &[u8], adrs: Address, input: &[u8], out: &mut [u8])
-    requires { ⌜ length (now out) ≡ kit .n ⌝ }
-    ensures { λ _. ⌜ now (out .exit)
-        ≡ familyOf kit .hash Function.T (now (seed .entry)) (bytesOf adrs) (now (input .entry)) ⌝ }
-{
-    call(seed, adrs, input, out);
-}
-
 // A secret value.
 pub fn secret_in(kit: Kit, seed: &[u8], adrs: Address, sk: &[u8], out: &mut [u8])
     requires { ⌜ length (now out) ≡ kit .n ⌝ }
@@ -79,16 +70,32 @@ pub fn secret_in(kit: Kit, seed: &[u8], adrs: Address, sk: &[u8], out: &mut [u8]
     call(seed, adrs, sk, out);
 }
 
+// A call with one input, by value.
+fn call_value(n: usize, seed: &[u8], adrs: Address, input: &[u8]) -> [u8; 32]
+    requires { ⌜ n ≤ 32 ⌝ }
+    ensures { λ r. ⌜ take n r ≡ shake256 (now (seed .entry) ++ (bytesOf adrs ++ now (input .entry))) n ⌝ }
+{
+    let mut out = [0u8; 32];
+    call(seed, adrs, input, &mut out[0..n]);
+    out
+}
+
 // F of a value.
 pub fn f(kit: Kit, seed: &[u8], adrs: Address, input: &[u8]) -> [u8; 32]
     requires { ⌜ kit .n ≤ 32 ⌝ }
     ensures { λ r. ⌜ take (kit .n) r
         ≡ familyOf kit .hash Function.F (now (seed .entry)) (bytesOf adrs) (now (input .entry)) ⌝ }
 {
-    let n = kit.n;
-    let mut out = [0u8; 32];
-    call(seed, adrs, input, &mut out[0..n]);
-    out
+    call_value(kit.n, seed, adrs, input)
+}
+
+// T of joined values.
+pub fn t(kit: Kit, seed: &[u8], adrs: Address, input: &[u8]) -> [u8; 32]
+    requires { ⌜ kit .n ≤ 32 ⌝ }
+    ensures { λ r. ⌜ take (kit .n) r
+        ≡ familyOf kit .hash Function.T (now (seed .entry)) (bytesOf adrs) (now (input .entry)) ⌝ }
+{
+    call_value(kit.n, seed, adrs, input)
 }
 
 // H of two values.

@@ -14,7 +14,7 @@ use calls::addresses::address_at;
 use calls::hashes::Kit;
 use calls::hashes::f_in;
 use calls::hashes::secret_in;
-use calls::hashes::t_in;
+use calls::hashes::t;
 use digits::chain_digits;
 use parts::put;
 
@@ -95,11 +95,12 @@ fn compress(kit: Kit, seed: &[u8], spot: Spot, ends: &[u8]) -> [u8; 32]
     ensures { λ r. ⌜ take (kit .n) r ≡ hashesOf kit (now (seed .entry)) .hash Function.T
         (address (chainEnds (spot .layer) (spot .tree) (spot .pair))) (now (ends .entry)) ⌝ }
 {
-    let n = kit.n;
-    let adrs = address_at(1, spot.layer, spot.tree, spot.pair, 0, 0);
-    let mut out = [0u8; 32];
-    t_in(kit, seed, adrs, ends, &mut out[0..n]);
-    out
+    t(
+        kit,
+        seed,
+        address_at(1, spot.layer, spot.tree, spot.pair, 0, 0),
+        ends,
+    )
 }
 
 // What all chains show for the digits, compressed, with room lent for what they show.

@@ -11,14 +11,14 @@ use lib.ListN.{length, take, drop, getD, drop-of-length-le}
 use lib.Seq.{take-take, drop-drop, drop-cons}
 use Rattle.lists.proofs.Filling.{rest-read}
 use Rattle.lists.proofs.Parts.{drop-take}
-use Rattle.rules.specs.Places.{Bytes, treeNode, forestNode, address}
-use Rattle.rules.specs.Calls.{F, of, Hashes}
+use Rattle.rules.specs.Places.{Bytes, treeNode, forestNode, forestRoots, address}
+use Rattle.rules.specs.Calls.{F, T, of, Hashes}
 use Rattle.rules.specs.Chains.{chains, leafFrom}
 use Rattle.rules.specs.Trees.{climb}
 use Rattle.rules.specs.Layers.{chainBytes, layerRoot}
-use Rattle.rules.specs.Forest.{treeBytes, forestWalk}
+use Rattle.rules.specs.Forest.{treeBytes, forestWalk, forestRoot}
 use Rattle.rules.specs.Counts.{is, count}
-use Rattle.rules.proofs.CountLaws.{leaf-count, layer-count}
+use Rattle.rules.proofs.CountLaws.{leaf-count, layer-count, forest-count}
 
 -- The front of a string, as code lends it.
 front : (n : ℕ) (x : Bytes) → take (n - 0) x ≡ take n x
@@ -93,6 +93,20 @@ module _ (w : Hashes) (t p a : ℕ) where
       → out ++ forestWalk w t p a j (drop j ds) rest .result ≡ whole → out ≡ whole
   unfolding forestWalk
   roots-end ds j out rest h q = rw (drop-of-length-le ds h, append-nil) at q
+
+  -- The forest: T over the roots, and one F call a tree.
+  pub forest-made : (ds : List ℕ) (sig : Bytes) {at rs v : Bytes} → at ≡ address (forestRoots t p)
+      → rs ≡ forestWalk w t p a 0 ds sig .result → v ≡ w .hash T at rs → v ≡ forestRoot w t p a ds sig .result
+  unfolding forestRoot
+  forest-made ds sig e f g = rw (e, f) at g
+
+  pub forest-calls : (ds : List ℕ) (sig : Bytes) → length ds ≡ count (of F) (forestRoot w t p a ds sig .calls)
+  unfolding is
+  forest-calls ds sig = sym (forest-count w (of F) t p a ds sig ∙ omega arith)
+
+-- The roots of at most 35 trees fit 35 values of 32 bytes.
+pub wood-fits : (k n : ℕ) → k ≤ 35 → n ≤ 32 → k * n ≤ 1120
+wood-fits k n h l = le-trans (mul-le-mul-left k l) (mul-le-mul-right {m = k} {n = 35} 32 h)
 
 -- A row's height times its n fits a word.
 pub small-product : (a n : ℕ) → a < 2 ^ 32 → n ≤ 32 → a * n ≤ 2 ^ 32 * 32

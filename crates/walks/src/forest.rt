@@ -3,14 +3,18 @@ ghost use mathlib.Core.Path.{_≡_};
 ghost use Prim.Native.Nat.{_+_, _*_, _^_, _≤_, _<_};
 ghost use lib.ListN.{length, take, drop};
 ghost use Rattle.rules.specs.Places.{address, forestNode};
-ghost use Rattle.rules.specs.Calls.{Function};
+ghost use Rattle.rules.specs.Calls.{Kind, Function};
+ghost use Rattle.rules.specs.Counts.{count};
 ghost use Rattle.rules.specs.Trees.{climb as climbRun};
-ghost use Rattle.rules.specs.Forest.{forestWalk};
+ghost use Rattle.rules.specs.Forest.{forestWalk, forestRoot};
 ghost use Rattle.calls.specs.Hashes.{hashesOf};
 ghost use Rattle.lists.specs.Below.{Below};
+ghost use Rattle.walks.specs.Shapes.{Wood};
 use calls::addresses::address_at;
 use calls::hashes::Kit;
 use calls::hashes::f;
+use calls::hashes::t;
+use chains::Walked;
 use parts::put;
 use trees::climbs::climb;
 use trees::groves::Grove;
@@ -67,4 +71,55 @@ pub fn roots_in(
         base += size;
         j += 1;
     }
+}
+
+// What layer 0 seals, from the forest's part of a seal, with room lent for the roots.
+fn forest_root_over(
+    kit: Kit,
+    seed: &[u8],
+    tree: u64,
+    pair: u32,
+    a: u32,
+    ds: &[u32],
+    sig: &[u8],
+    roots: &mut [u8],
+) -> Walked
+    requires { ⌜ Wood kit a (length (now ds)) (length (now sig)) × Below (2 ^ a) (now ds) ⌝ }
+    requires { ⌜ length (now roots) ≡ length (now ds) * kit .n ⌝ }
+    ensures { λ r. ⌜ take (kit .n) (r .value) ≡ forestRoot (hashesOf kit (now (seed .entry))) tree pair a
+        (now (ds .entry)) (now (sig .entry)) .result ⌝ }
+    ensures { λ r. ⌜ r .calls ≡ count (Kind.of Function.F) (forestRoot (hashesOf kit (now (seed .entry))) tree pair a
+        (now (ds .entry)) (now (sig .entry)) .calls) ⌝ }
+    ensures { λ r. ⌜ length (r .value) ≡ 32 ⌝ }
+{
+    let leaves = 1u32 << a;
+    roots_in(kit, seed, tree, pair, a, leaves, ds, sig, roots);
+    let value = t(kit, seed, address_at(4, 0, tree, pair, 0, 0), roots);
+    let calls = ds.len() as u32;
+    Walked {
+        value: value,
+        calls: calls,
+    }
+}
+
+// What layer 0 seals, from the forest's part of a seal.
+pub fn forest_root(
+    kit: Kit,
+    seed: &[u8],
+    tree: u64,
+    pair: u32,
+    a: u32,
+    ds: &[u32],
+    sig: &[u8],
+) -> Walked
+    requires { ⌜ Wood kit a (length (now ds)) (length (now sig)) × Below (2 ^ a) (now ds) ⌝ }
+    ensures { λ r. ⌜ take (kit .n) (r .value) ≡ forestRoot (hashesOf kit (now (seed .entry))) tree pair a
+        (now (ds .entry)) (now (sig .entry)) .result ⌝ }
+    ensures { λ r. ⌜ r .calls ≡ count (Kind.of Function.F) (forestRoot (hashesOf kit (now (seed .entry))) tree pair a
+        (now (ds .entry)) (now (sig .entry)) .calls) ⌝ }
+    ensures { λ r. ⌜ length (r .value) ≡ 32 ⌝ }
+{
+    let size = ds.len() * kit.n;
+    let mut roots = [0u8; 1120];
+    forest_root_over(kit, seed, tree, pair, a, ds, sig, &mut roots[0..size])
 }
