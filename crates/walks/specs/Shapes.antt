@@ -18,5 +18,6 @@ pub record Stack (kit : Kit) (h' size d sig : ℕ) : Type 0 where
   pub small : kit .n ≤ 32
   pub leaves : size ≡ 2 ^ h'
   pub counted : size ≤ 2 ^ 32
-  pub some : d < 2 ^ 16
+  pub some : 0 < d
+  pub few : d < 2 ^ 16
   pub sig-long : sig ≡ d * (chains (kit .n) * kit .n + h' * kit .n)
