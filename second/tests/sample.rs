@@ -1,11 +1,13 @@
 //! A row small enough to be worked out by a proof checker, with a stand-in hash: the numbers below stand in
 //! `crates/rules/proofs/Sample.antt` too, where the definitions are proved to give them.
 
-use second::address::Address;
-use second::sets::Params;
-use second::{plain_frame, Call, Family, Kind, Log, Scheme};
+mod common;
 
-struct StandIn;
+use common::ByLetter;
+use second::sets::Params;
+use second::{plain_frame, Call, Kind, Log, Scheme};
+
+static STAND_IN: ByLetter = ByLetter(hash);
 
 /// Each byte is stirred into a number below 2^31 - 1.
 fn stir(bytes: &[u8]) -> u64 {
@@ -17,27 +19,6 @@ fn hash(letter: u8, parts: &[&[u8]], length: usize) -> Vec<u8> {
     let stirred = u128::from(stir(&[&[letter][..], &parts.concat()].concat()));
     let bytes = (stirred * stirred * 16_777_619).to_be_bytes();
     bytes[bytes.len() - length..].to_vec()
-}
-
-impl Family for StandIn {
-    fn h_msg(&self, p: &Params, r: &[u8], pk_seed: &[u8], pk_root: &[u8], m: &[u8]) -> Vec<u8> {
-        hash(b'D', &[r, pk_seed, pk_root, m], p.m)
-    }
-    fn prf(&self, p: &Params, pk_seed: &[u8], sk_seed: &[u8], adrs: &Address) -> Vec<u8> {
-        hash(b'S', &[pk_seed, adrs.bytes(), sk_seed], p.n)
-    }
-    fn prf_msg(&self, p: &Params, sk_prf: &[u8], opt_rand: &[u8], m: &[u8]) -> Vec<u8> {
-        hash(b'R', &[sk_prf, opt_rand, m], p.n)
-    }
-    fn f(&self, p: &Params, pk_seed: &[u8], adrs: &Address, m1: &[u8]) -> Vec<u8> {
-        hash(b'F', &[pk_seed, adrs.bytes(), m1], p.n)
-    }
-    fn h(&self, p: &Params, pk_seed: &[u8], adrs: &Address, m2: &[u8]) -> Vec<u8> {
-        hash(b'H', &[pk_seed, adrs.bytes(), m2], p.n)
-    }
-    fn t(&self, p: &Params, pk_seed: &[u8], adrs: &Address, ml: &[u8]) -> Vec<u8> {
-        hash(b'T', &[pk_seed, adrs.bytes(), ml], p.n)
-    }
 }
 
 /// A list of calls as bytes: of each its letter, its address and its input.
@@ -56,7 +37,7 @@ fn told(calls: &[Call]) -> Vec<u8> {
 #[test]
 fn a_small_row_gives_the_numbers_of_the_definitions() {
     // n, h, d, h', a, k, m: n = 9 is the least n whose checksum needs three digits.
-    let scheme = Scheme::of_row(Params::new(9, 4, 2, 2, 2, 3, 3), &StandIn).unwrap();
+    let scheme = Scheme::of_row(Params::new(9, 4, 2, 2, 2, 3, 3), &STAND_IN).unwrap();
     let mut made = Log::counting();
     let (public, secret) = scheme.keygen(&mut made, &[1; 9], &[2; 9], &[3; 9]).unwrap();
     let message = plain_frame(b"Ski", b"").unwrap();

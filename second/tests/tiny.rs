@@ -2,13 +2,12 @@
 
 mod common;
 
-use common::Random;
-use second::address::Address;
+use common::{ByLetter, Random};
 use second::family::Shake;
 use second::*;
 
 /// A stand-in hash: a polynomial over the bytes, started with a letter for the function. Anyone can write it again.
-struct Toy;
+static TOY: ByLetter = ByLetter(toy);
 
 fn toy(letter: u8, parts: &[&[u8]], length: usize) -> Vec<u8> {
     let mut state = u64::from(letter);
@@ -16,27 +15,6 @@ fn toy(letter: u8, parts: &[&[u8]], length: usize) -> Vec<u8> {
         state = (state * 257 + u64::from(byte) + 1) % 1_000_003;
     }
     (0..length as u64).map(|i| ((state * (2 * i + 3) + i) % 65_521 % 256) as u8).collect()
-}
-
-impl Family for Toy {
-    fn h_msg(&self, p: &Params, r: &[u8], pk_seed: &[u8], pk_root: &[u8], m: &[u8]) -> Vec<u8> {
-        toy(b'D', &[r, pk_seed, pk_root, m], p.m)
-    }
-    fn prf(&self, p: &Params, pk_seed: &[u8], sk_seed: &[u8], adrs: &Address) -> Vec<u8> {
-        toy(b'S', &[pk_seed, adrs.bytes(), sk_seed], p.n)
-    }
-    fn prf_msg(&self, p: &Params, sk_prf: &[u8], opt_rand: &[u8], m: &[u8]) -> Vec<u8> {
-        toy(b'R', &[sk_prf, opt_rand, m], p.n)
-    }
-    fn f(&self, p: &Params, pk_seed: &[u8], adrs: &Address, m1: &[u8]) -> Vec<u8> {
-        toy(b'F', &[pk_seed, adrs.bytes(), m1], p.n)
-    }
-    fn h(&self, p: &Params, pk_seed: &[u8], adrs: &Address, m2: &[u8]) -> Vec<u8> {
-        toy(b'H', &[pk_seed, adrs.bytes(), m2], p.n)
-    }
-    fn t(&self, p: &Params, pk_seed: &[u8], adrs: &Address, ml: &[u8]) -> Vec<u8> {
-        toy(b'T', &[pk_seed, adrs.bytes(), ml], p.n)
-    }
 }
 
 /// n = 1 and 2, with the standard's two checksum digits and with the three of the real sets; one layer; odd heights.
@@ -51,7 +29,7 @@ fn rows() -> Vec<Params> {
 #[test]
 fn own_seals_are_accepted_at_every_place() {
     for params in rows() {
-        let scheme = Scheme::of_row(params, &Toy).unwrap();
+        let scheme = Scheme::of_row(params, &TOY).unwrap();
         let mut random = Random(60);
         let mut log = Log::counting();
         let seeds: [Vec<u8>; 3] = [0; 3].map(|_| random.bytes(params.n));
@@ -60,7 +38,7 @@ fn own_seals_are_accepted_at_every_place() {
         for i in 0..400u32 {
             let message = i.to_be_bytes();
             let r = random.bytes(params.n);
-            let digest = Toy.h_msg(&params, &r, &public[..params.n], &public[params.n..], &message);
+            let digest = TOY.h_msg(&params, &r, &public[..params.n], &public[params.n..], &message);
             let place = scheme.place(&digest).unwrap();
             places.insert((place.idx_tree, place.idx_leaf));
             let seal = scheme.sign_with_randomizer(&mut log, &message, &secret, &r).unwrap();
@@ -77,8 +55,8 @@ fn own_seals_are_accepted_at_every_place() {
 #[test]
 fn chains_of_a_small_value() {
     let two = Params::new(2, 4, 2, 2, 2, 2, 3);
-    let standard = Scheme::of_row(two, &Toy).unwrap();
-    let as_real_sets = Scheme::of_row(Params { len2: 3, ..two }, &Toy).unwrap();
+    let standard = Scheme::of_row(two, &TOY).unwrap();
+    let as_real_sets = Scheme::of_row(Params { len2: 3, ..two }, &TOY).unwrap();
     // The checksum of 1, 2, 3, 4 is 60 - 10 = 50 = 3 * 16 + 2.
     assert_eq!(standard.chain_digits(&[0x12, 0x34]), Ok(vec![1, 2, 3, 4, 3, 2]));
     assert_eq!(as_real_sets.chain_digits(&[0x12, 0x34]), Ok(vec![1, 2, 3, 4, 0, 3, 2]));
@@ -142,7 +120,7 @@ fn a_root_written_out() {
     let left = hash(b'H', [2, 0, 1, 0], &[leaf(0), leaf(1)].concat());
     let right = hash(b'H', [2, 0, 1, 1], &[leaf(2), leaf(3)].concat());
     let root = hash(b'H', [2, 0, 2, 0], &[left, right].concat());
-    let scheme = Scheme::of_row(params, &Toy).unwrap();
+    let scheme = Scheme::of_row(params, &TOY).unwrap();
     let (public, _) = scheme.keygen(&mut Log::counting(), &sk_seed, &sk_prf, &pk_seed).unwrap();
     assert_eq!(public, [&pk_seed[..], &root].concat());
 }

@@ -1,7 +1,10 @@
-//! What several test files need: reading vectors, hex, and a small generator of test bytes.
+//! What several test files need: reading vectors, hex, a small generator of test bytes, and stand-in families.
 
 #![allow(dead_code)] // each test file uses a part of this
 
+use second::address::Address;
+use second::sets::Params;
+use second::Family;
 use std::fs;
 use std::path::Path;
 
@@ -74,5 +77,29 @@ impl Random {
 
     pub fn bytes(&mut self, length: usize) -> Vec<u8> {
         (0..length).map(|_| self.next() as u8).collect()
+    }
+}
+
+/// A stand-in family over one hash of a letter for the function, the parts and a length.
+pub struct ByLetter(pub fn(u8, &[&[u8]], usize) -> Vec<u8>);
+
+impl Family for ByLetter {
+    fn h_msg(&self, p: &Params, r: &[u8], pk_seed: &[u8], pk_root: &[u8], m: &[u8]) -> Vec<u8> {
+        self.0(b'D', &[r, pk_seed, pk_root, m], p.m)
+    }
+    fn prf(&self, p: &Params, pk_seed: &[u8], sk_seed: &[u8], adrs: &Address) -> Vec<u8> {
+        self.0(b'S', &[pk_seed, adrs.bytes(), sk_seed], p.n)
+    }
+    fn prf_msg(&self, p: &Params, sk_prf: &[u8], opt_rand: &[u8], m: &[u8]) -> Vec<u8> {
+        self.0(b'R', &[sk_prf, opt_rand, m], p.n)
+    }
+    fn f(&self, p: &Params, pk_seed: &[u8], adrs: &Address, m1: &[u8]) -> Vec<u8> {
+        self.0(b'F', &[pk_seed, adrs.bytes(), m1], p.n)
+    }
+    fn h(&self, p: &Params, pk_seed: &[u8], adrs: &Address, m2: &[u8]) -> Vec<u8> {
+        self.0(b'H', &[pk_seed, adrs.bytes(), m2], p.n)
+    }
+    fn t(&self, p: &Params, pk_seed: &[u8], adrs: &Address, ml: &[u8]) -> Vec<u8> {
+        self.0(b'T', &[pk_seed, adrs.bytes(), ml], p.n)
     }
 }
