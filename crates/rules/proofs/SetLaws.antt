@@ -11,11 +11,12 @@ use Rattle.rules.specs.Chains.{chains}
 use Rattle.rules.specs.Digest.{Row, Legal, bytesFor}
 use Rattle.rules.specs.Sets.{rows, good, every, find, rowOf, bounds}
 
-first : (a b : Bool) → T (a && b) → T a
+-- The halves of a test that has two.
+pub first : (a b : Bool) → T (a && b) → T a
 first true b t = tt
 first false b t = t
 
-second : (a b : Bool) → T (a && b) → T b
+pub second : (a b : Bool) → T (a && b) → T b
 second true b t = t
 second false b t = absurd t
 
@@ -37,23 +38,24 @@ legal r t =
       checksum-fits = ltb→lt _ _ (second (eqb (r .sealBytes) _) _ t5);
     }
 
-pub every-row : T (every rows)
+pub every-row : T (every good rows)
 unfolding rows every good
 every-row = tt
 
--- A row that is found has the number asked for, and is legal.
-found : (number : ℕ) (rs : List Row) (r : Row) → T (every rs) → find number rs ≡ some r → (r .number ≡ number) × Legal r
+-- A row that is found has the number asked for, and passes every test that all rows pass.
+found : (test : Row → Bool) (number : ℕ) (rs : List Row) (r : Row) → T (every test rs) → find number rs ≡ some r
+    → (r .number ≡ number) × T (test r)
 unfolding find every
-found number [] r t e = let z : _≡_ {A = ℕ} 0 1 = cc in absurd (omega arith)
-found number (q ∷ rs) r t e =
-    here (eqb number (q .number)) refl e (λ e′. found number rs r (second (good q) (every rs) t) e′)
+found test number [] r t e = let z : _≡_ {A = ℕ} 0 1 = cc in absurd (omega arith)
+found test number (q ∷ rs) r t e =
+    here (eqb number (q .number)) refl e (λ e′. found test number rs r (second (test q) (every test rs) t) e′)
   where
     here : (b : Bool) → eqb number (q .number) ≡ b → cond b (some q) (find number rs) ≡ some r
-        → (find number rs ≡ some r → (r .number ≡ number) × Legal r) → (r .number ≡ number) × Legal r
+        → (find number rs ≡ some r → (r .number ≡ number) × T (test r)) → (r .number ≡ number) × T (test r)
     here true h e′ later =
         let same : q ≡ r = cc in (
           ap (λ (x : Row). x .number) (sym same) ∙ sym (eqb→eq number (q .number) (subst T (sym h) tt)),
-          subst Legal same (legal q (first (good q) (every rs) t)),
+          subst (λ (x : Row). T (test x)) same (first (test q) (every test rs) t),
         )
     here false h e′ later = later e′
 
@@ -71,9 +73,15 @@ pub find-end : (number : ℕ) → find number [] ≡ none
 unfolding find
 find-end number = refl
 
-pub rowOf-legal : (number : ℕ) (r : Row) → rowOf number ≡ some r → (r .number ≡ number) × Legal r
+pub rowOf-passes : (test : Row → Bool) → T (every test rows) → (number : ℕ) (r : Row) → rowOf number ≡ some r
+    → (r .number ≡ number) × T (test r)
 unfolding rowOf
-rowOf-legal number r e = found number rows r every-row e
+rowOf-passes test t number r e = found test number rows r t e
+
+pub rowOf-legal : (number : ℕ) (r : Row) → rowOf number ≡ some r → (r .number ≡ number) × Legal r
+rowOf-legal number r e =
+    let f = rowOf-passes good every-row number r e in
+    (f .0, legal r (f .1))
 
 -- The bounds of F calls, worked out for every row.
 pub row-bounds : bounds rows ≡ 329 ∷ 3584 ∷ 1023 ∷ 11253 ∷ []

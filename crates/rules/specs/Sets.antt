@@ -42,9 +42,10 @@ good r =
     && (eqb (r .sealBytes) ((1 + r .k * (r .a + 1) + r .h + chains (r .n) * r .d) * r .n)
     && ltb (30 * r .n) (16 ^ 3))))))
 
-unfoldable pub every : List Row → Bool
-every [] = true
-every (r ∷ rs) = good r && every rs
+-- Every row passes a test.
+unfoldable pub every : (test : Row → Bool) → List Row → Bool
+every test [] = true
+every test (r ∷ rs) = test r && every test rs
 
 -- The row of a set number.
 unfoldable pub find : (number : ℕ) → List Row → Option Row

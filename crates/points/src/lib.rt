@@ -1,0 +1,44 @@
+// Where a message digest points (FIPS 205, algorithms 19, lines 6 to 10, and 20, lines 9 to 13).
+ghost use mathlib.Core.Path.{_≡_};
+ghost use Prim.Native.Nat.{_≤_};
+ghost use lib.ListN.{length};
+ghost use Rattle.rules.specs.Digest.{lastBits, pointed};
+ghost use Rattle.calls.specs.Rows.{ruledRow};
+ghost use Rattle.points.specs.Ready.{Ready};
+use calls::rows::Row;
+use digits::digits;
+use digits::number;
+
+// The tree in layer 0, and the leaf in it.
+pub struct Pointed {
+    pub tree: u64,
+    pub leaf: u32,
+}
+
+// The last bits of at most eight bytes, as a number.
+fn last_bits(bits: u32, x: &[u8]) -> u64
+    requires { ⌜ length (now x) ≤ 8 ⌝ }
+    ensures { λ r. ⌜ r ≡ lastBits bits (now (x .entry)) ⌝ }
+{
+    let v = number(x);
+    if bits < 64 { v % (1u64 << bits) } else { v }
+}
+
+// The tree and the leaf that a digest points to; the forest's digits are written to the list lent.
+pub fn point(row: Row, digest: &[u8], indices: &mut [u32]) -> Pointed
+    requires { ⌜ Ready (ruledRow row) × (length (now digest) ≡ row .m) × (length (now indices) ≡ row .k) ⌝ }
+    ensures { λ _. ⌜ now (indices .exit) ≡ pointed (ruledRow row) (now (digest .entry)) .indices ⌝ }
+    ensures { λ r. ⌜ r .tree ≡ pointed (ruledRow row) (now (digest .entry)) .tree ⌝ }
+    ensures { λ r. ⌜ r .leaf ≡ pointed (ruledRow row) (now (digest .entry)) .leaf ⌝ }
+{
+    let bits = row.h - row.hp;
+    let forest = ((row.k * row.a + 7) / 8) as usize;
+    let mid = forest + ((bits + 7) / 8) as usize;
+    digits(&digest[0..forest], row.a, indices);
+    let tree = last_bits(bits, &digest[forest..mid]);
+    let leaf = last_bits(row.hp, &digest[mid..]) as u32;
+    Pointed {
+        tree: tree,
+        leaf: leaf,
+    }
+}
