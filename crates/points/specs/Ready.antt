@@ -1,9 +1,11 @@
--- What the code needs of a row: it is legal, and fits the room that the code has.
+-- What the code needs of a row: it is legal, and fits the room that the code has. And the hash family of a row.
 -- Assumes nothing.
 use mathlib.Core.Bool.{Bool, _&&_}
 use Prim.Native.Nat.{ℕ, _+_, _-_, _≤_}
 use lib.Dec.{leb}
+use Rattle.rules.specs.Calls.{Family}
 use Rattle.rules.specs.Digest.{Row, Legal}
+use Rattle.calls.specs.Hashes.{family}
 
 -- The capacities: values of 32 bytes, 35 forest trees, digits of 16 bits, heights of 16, 64 layers, tree numbers of 64
 -- bits and digests of 64 bytes. They hold every set of FIPS 205.
@@ -30,3 +32,6 @@ fits r =
 pub record Ready (r : Row) : Type 0 where
   pub legal : Legal r
   pub fit : Fits r
+
+abbrev pub familyFor : (r : Row) → Family (r .n) (r .m)
+familyFor r = family (r .n) (r .m)

@@ -16,9 +16,10 @@ sub-bits c =
 
 digits-requires : tie.Need-digits-requires
 digits-requires c κs =
-    let s = c .before .before .before .before .before .before in
-    (s .pre .0 .fit .digits,
-    forest-bits (ruledRow (s .args .row)) (s .args .digest .now) _ (s .pre .0 .legal) (s .pre .1) (s .pre .2))
+    let s = c .before .before .before .before .before .before in (
+      s .pre .0 .fit .digits,
+      forest-bits (ruledRow (s .args .row)) (s .args .digest .now) _ (s .pre .0 .legal) (s .pre .1) (s .pre .2),
+    )
 
 cast-leaf : tie.Need-cast-leaf
 cast-leaf c =

@@ -1,0 +1,157 @@
+-- A check on plain values: the digest, the forest on its part of the seal, and the layers on theirs, are the rules' check.
+-- Assumes nothing.
+use mathlib.Core.Path.{_≡_, refl, sym, ap, ap₂, _∙_}
+use mathlib.Core.List.{List, [], _∷_, _++_}
+use Prim.Native.Nat.{ℕ, suc, _+_, _-_, _*_, _%_, _^_, _≤_, _<_}
+use native.Mathlib.Nat.{sub-zero, zero-add}
+use native.Mathlib.Omega.{arith}
+use lib.ListN.{length, take, drop, length-drop}
+use lib.Pow.{pow-mono}
+use Rattle.lists.proofs.Bits.{one-shifted}
+use Rattle.lists.proofs.Lent.{lent}
+use Rattle.lists.proofs.Filling.{rest-read, lent-length}
+use Rattle.rules.specs.Places.{Bytes}
+use Rattle.rules.specs.Calls.{F, of, Family, Hashes, under, Run, _>>=_}
+use Rattle.rules.specs.Chains.{chains}
+use Rattle.rules.specs.Layers.{layersRoot}
+use Rattle.rules.specs.Forest.{treeBytes, forestBytes, forestRoot}
+use Rattle.rules.specs.Digest.{Row, Pointed, pointed}
+use Rattle.rules.specs.Keys.{piece}
+use Rattle.rules.specs.Seal.{frame, digestOf, partStart, partLength, part}
+use Rattle.rules.specs.Check.{layersPart, rootAt, checkedRoot}
+use Rattle.rules.specs.Counts.{is, count}
+use Rattle.rules.proofs.CountLaws.{count-append}
+use Rattle.points.specs.Ready.{Ready}
+use Rattle.points.proofs.SizeLaws.{forestSize, layerSize, forest-leaves, layer-leaves, seal-size, layers-start, first-piece, last-piece}
+use Rattle.walks.specs.Shapes.{Wood, Stack}
+use Rattle.walks.proofs.WalkLaws.{forest-calls}
+use Rattle.walks.proofs.UpLaws.{up-calls, up-most}
+use Rattle.calls.specs.declared.hashes.Kit.{Kit}
+
+-- ---- The two parts that are walked
+
+module _ (r : Row) where
+  abbrev pub kitOf : Kit
+  kitOf = record { n = r .n; m = r .m }
+
+  -- Where the forest's part ends.
+  abbrev pub end : ℕ
+  end = r .n + forestSize r
+
+  module _ (seal : Bytes) where
+    abbrev pub forestPart : Bytes
+    forestPart = take (end - r .n) (drop (r .n) seal)
+
+    abbrev pub rest : Bytes
+    rest = take (length seal - end) (drop end seal)
+
+    module _ (ready : Ready r) (long : length seal ≡ r .sealBytes) where
+      -- They have the sizes that the walks need.
+      pub wood : (trees : ℕ) → trees ≡ r .k → Wood kitOf (r .a) trees (length forestPart)
+      wood trees e = record {
+        small = ready .fit .values;
+        few = omega (arith, e, ready .fit .trees);
+        low = omega (arith, ready .fit .digits);
+        leaves = rw e (omega (arith, forest-leaves r ready));
+        sig-long = rw e (lent-length (r .n) (forestSize r) seal (omega (arith, long, seal-size r ready)));
+      }
+
+      rest-long : length rest ≡ r .d * layerSize r
+      rest-long = ap length (rest-read end seal) ∙ length-drop end seal ∙ omega (arith, long, seal-size r ready)
+
+      pub stack : Stack kitOf (r .h') (1 * 2 ^ r .h' % 2 ^ 64) (r .d) (length rest)
+      stack =
+          let size : 1 * 2 ^ r .h' % 2 ^ 64 ≡ 2 ^ r .h' = one-shifted (r .h') 64 (omega (arith, ready .fit .heights)) in
+          record {
+            small = ready .fit .values;
+            leaves = size;
+            counted = rw size (omega (arith, layer-leaves r ready));
+            some = ready .legal .some-layer;
+            few = omega (arith, ready .fit .layers);
+            sig-long = rest-long;
+          }
+
+-- ---- The root at a place
+
+module _ (r : Row) (f : Family (r .n) (r .m)) (pk : Bytes) (at : Pointed) (seal : Bytes) where
+  abbrev low : Run Bytes
+  low = forestRoot (under f pk) (at .tree) (at .leaf) (r .a) (at .indices) (forestPart r seal)
+
+  abbrev up : Bytes → Run Bytes
+  up v = layersRoot (under f pk) (r .h') (r .d - 1) 0 (at .tree) (at .leaf) v (rest r seal)
+
+  root-cut : rootAt r f pk seal at ≡ (low >>= λ v. up v)
+  unfolding rootAt layersPart part partLength partStart forestBytes treeBytes
+  root-cut =
+      ap₂ (λ x y. forestRoot (under f pk) (at .tree) (at .leaf) (r .a) (at .indices) x
+      >>= λ v. layersRoot (under f pk) (r .h') (r .d - 1) 0 (at .tree) (at .leaf) v y)
+      (sym (lent (r .n) (forestSize r) seal))
+      (ap (λ k. drop k seal) (layers-start r) ∙ sym (rest-read (end r) seal))
+
+  module _ {v : Bytes} (e : v ≡ low .result) where
+    pub root-made : {root : Bytes} → root ≡ up v .result → root ≡ rootAt r f pk seal at .result
+    root-made g = g ∙ ap (λ x. up x .result) e ∙ sym (ap (λ x. x .result) root-cut)
+
+    pub root-calls : {below above : ℕ} → below ≡ count (of F) (low .calls) → above ≡ count (of F) (up v .calls)
+        → below + above ≡ count (of F) (rootAt r f pk seal at .calls)
+    root-calls g h =
+        ap₂ _+_ g (h ∙ ap (λ x. count (of F) (up x .calls)) e)
+        ∙ sym (ap (λ x. count (of F) (x .calls)) root-cut ∙ count-append (of F) (low .calls) (up (low .result) .calls))
+
+  -- The calls fit a word.
+  pub few-calls : Ready r → length seal ≡ r .sealBytes → length (at .indices) ≡ r .k → (v : Bytes) {below above : ℕ}
+      → below ≡ count (of F) (low .calls) → above ≡ count (of F) (up v .calls) → below + above < 2 ^ 32
+  few-calls ready long count-is v g h =
+      let d : suc (r .d - 1) ≡ r .d = omega (arith, ready .legal .some-layer) in
+      let high : suc (r .d - 1) * 1005 ≤ 64 * 1005 = omega (arith, ready .fit .layers) in
+      omega (
+        arith,
+        g,
+        h,
+        count-is,
+        ready .fit .trees,
+        forest-calls (under f pk) (at .tree) (at .leaf) (r .a) (at .indices) (forestPart r seal),
+        up-calls (under f pk) (r .h') (r .d - 1) 0 (at .tree) (at .leaf) v (rest r seal)
+            (rest-long r seal ready long ∙ ap (λ k. k * layerSize r) (sym d)),
+        up-most (under f pk) (r .h') (suc (r .d - 1)) 0 (at .tree) (at .leaf) v (rest r seal) (ready .fit .values),
+      )
+
+-- A place is the one pointed to where its three numbers are.
+pub pointed-at : (r : Row) (D : Bytes) {is : List ℕ} {t l : ℕ} → is ≡ pointed r D .indices → t ≡ pointed r D .tree
+    → l ≡ pointed r D .leaf → _≡_ {A = Pointed} (record { indices = is; tree = t; leaf = l }) (pointed r D)
+pointed-at r D e f g = rw (e, f, g)
+
+-- ---- The whole check, on a public key as bytes and a message
+
+module _ (r : Row) (f : Family (r .n) (r .m)) (public message seal : Bytes) (long : length public ≡ 2 * r .n) where
+  D : Bytes
+  D = f .Hmsg (part r 0 seal) (piece (r .n) 0 public) (piece (r .n) 1 public) (frame message)
+
+  -- The digest, of the seal's randomizer and the two pieces of the key.
+  digest-is : {digest : Bytes} → digest ≡ f .Hmsg (take (r .n - 0) seal) (take (r .n - 0) public)
+      (take (length public - r .n) (drop (r .n) public)) ((0 ∷ 0 ∷ []) ++ message) → digest ≡ D
+  unfolding D part partStart partLength frame
+  digest-is e =
+      let root : take (length public - r .n) (drop (r .n) public) ≡ piece (r .n) 1 public =
+      ap (λ k. take (length public - k) (drop k public)) (omega arith) ∙ last-piece (r .n) public 1 (omega (arith, long)) in
+      e ∙ ap₂ (λ R k. f .Hmsg R k (take (length public - r .n) (drop (r .n) public)) (frame message))
+      (ap (λ k. take k seal) (sub-zero (r .n))) (first-piece (r .n) public)
+      ∙ ap (λ x. f .Hmsg (part r 0 seal) (piece (r .n) 0 public) x (frame message)) root
+
+  module _ {digest : Bytes} (e : digest ≡ f .Hmsg (take (r .n - 0) seal) (take (r .n - 0) public)
+      (take (length public - r .n) (drop (r .n) public)) ((0 ∷ 0 ∷ []) ++ message))
+      {at : Pointed} (g : at ≡ pointed r digest) where
+    pub checked-made : {root : Bytes} → root ≡ rootAt r f (take (r .n - 0) public) seal at .result
+        → root ≡ checkedRoot r f public (frame message) seal .result
+    unfolding checkedRoot digestOf D
+    checked-made h =
+        h ∙ ap₂ (λ k p. rootAt r f k seal p .result) (first-piece (r .n) public)
+        (g ∙ ap (pointed r) (digest-is e))
+
+    pub checked-calls : {calls : ℕ} → calls ≡ count (of F) (rootAt r f (take (r .n - 0) public) seal at .calls)
+        → calls ≡ count (of F) (checkedRoot r f public (frame message) seal .calls)
+    unfolding checkedRoot digestOf D count is
+    checked-calls h =
+        h ∙ ap₂ (λ k p. count (of F) (rootAt r f k seal p .calls)) (first-piece (r .n) public)
+        (g ∙ ap (pointed r) (digest-is e))
+        ∙ sym (zero-add _)

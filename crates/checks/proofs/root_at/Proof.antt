@@ -1,0 +1,78 @@
+-- `root_at` walks the forest's part and then, on what it led to, the layers' parts.
+-- Assumes nothing.
+use native.Mathlib.Omega.{arith}
+use borrow.Author.Needs.{needs}
+use Rattle.calls.specs.Rows.{ruledRow}
+use Rattle.points.specs.Ready.{familyFor}
+use Rattle.points.proofs.SizeLaws.{tree-room}
+use Rattle.checks.specs.At.{at}
+use Rattle.checks.proofs.CheckLaws.{wood, stack, root-made, root-calls, few-calls}
+use Rattle.checks.proofs.root_at.Statement.{statement}
+use Rattle.checks.proofs.root_at.Tie as tie
+
+mul-end : tie.Need-mul-end
+mul-end c =
+    let s = c .before .before .before .before .before in
+    record { fits = omega (arith, tree-room (ruledRow (s .args .row)) (s .pre .0 .0)) }
+
+add-end : tie.Need-add-end
+add-end c =
+    let s = c .before .before .before .before .before in
+    record { fits = omega (arith, tree-room (ruledRow (s .args .row)) (s .pre .0 .0)) }
+
+forest-root-requires : tie.Need-forest-root-requires
+forest-root-requires c κs =
+    let s = c .before .before .before .before .before .before in
+    (wood (ruledRow (s .args .row)) (s .args .seal .now) (s .pre .0 .0) (s .pre .0 .1) _ (s .pre .1 .0), s .pre .1 .1)
+
+layers-root-requires : tie.Need-layers-root-requires
+layers-root-requires c κs =
+    let s = c .before .before .before .before .before .before .before .before .before .before in
+    stack (ruledRow (s .args .row)) (s .args .seal .now) (s .pre .0 .0) (s .pre .0 .1)
+
+add-t30 : tie.Need-add-t30
+add-t30 c =
+    let low = c .before .before .before .before .before in
+    let s = low .before .before .before .before .before .before .before in
+    let a = s .args in
+    let r = ruledRow (a .row) in
+    record {
+      fits = few-calls r (familyFor r) (a .seed .now) (at (a .place) (a .indices .now)) (a .seal .now) (s .pre .0 .0)
+          (s .pre .0 .1) (s .pre .1 .0) _ (low .forest-root .ensures .1 .0) (c .before .layers-root .ensures .1 .0);
+    }
+
+returns : tie.Need-returns
+returns c =
+    let low = c .before .before .before .before .before in
+    let s = low .before .before .before .before .before .before .before in
+    let a = s .args in
+    let r = ruledRow (a .row) in
+    let p = at (a .place) (a .indices .now) in
+    let e = low .forest-root .ensures in
+    let g = c .before .layers-root .ensures in (
+      root-made r (familyFor r) (a .seed .now) p (a .seal .now) (e .0) (g .0),
+      (root-calls r (familyFor r) (a .seed .now) p (a .seal .now) (e .0) (e .1 .0) (g .1 .0), g .1 .1),
+    )
+
+pub root-at-spec : {M : Type 1} → statement M
+root-at-spec =
+    tie.close
+    (tie.spec
+    (λ c. search needs)
+    (λ c. search needs)
+    mul-end
+    add-end
+    (λ c. search needs)
+    (λ c. search needs)
+    (λ c. search needs)
+    (λ c. search needs)
+    (λ c. search needs)
+    forest-root-requires
+    (λ c. search needs)
+    (λ c. search needs)
+    (λ c. search needs)
+    (λ c. search needs)
+    (λ c. search needs)
+    layers-root-requires
+    add-t30
+    returns)

@@ -1,0 +1,66 @@
+-- The sizes of a ready row: its forest's part is small, and a seal is the randomizer, the forest's part and the layers'.
+-- Assumes nothing.
+use mathlib.Core.Path.{_≡_, sym, ap, _∙_}
+use Prim.Native.Nat.{ℕ, _+_, _-_, _*_, _^_, _≤_, _<_}
+use native.Mathlib.Nat.{mul-le-mul, le-trans, sub-zero, zero-mul}
+use native.Mathlib.Omega.{arith}
+use lib.ListN.{length, take, drop}
+use lib.Pow.{pow-mono}
+use Rattle.lists.proofs.Lent.{lent}
+use Rattle.rules.specs.Places.{Bytes}
+use Rattle.rules.specs.Chains.{chains}
+use Rattle.rules.specs.Layers.{layerBytes, chainBytes}
+use Rattle.rules.specs.Forest.{treeBytes, forestBytes}
+use Rattle.rules.specs.Digest.{Row}
+use Rattle.rules.specs.Keys.{piece}
+use Rattle.rules.specs.Seal.{partStart}
+use Rattle.rules.proofs.SealLaws.{seal-parts}
+use Rattle.points.specs.Ready.{Ready}
+
+-- The bytes of the forest's part of a seal, and of a layer's, as code works them out.
+abbrev pub forestSize : Row → ℕ
+forestSize r = r .k * (r .n + r .a * r .n)
+
+abbrev pub layerSize : Row → ℕ
+layerSize r = chains (r .n) * r .n + r .h' * r .n
+
+module _ (r : Row) (ready : Ready r) where
+  -- A tree's part, and the forest's, are small.
+  pub tree-room : r .n + r .a * r .n ≤ 544
+  tree-room = omega (arith, ready .fit .values, mul-le-mul (ready .fit .digits) (ready .fit .values))
+
+  pub forest-room : forestSize r ≤ 19040
+  forest-room = mul-le-mul (ready .fit .trees) tree-room
+
+  -- All leaves of the forest, and two trees of a layer, are counted in 32 bits.
+  pub forest-leaves : (r .k + 1) * 2 ^ r .a ≤ 36 * 2 ^ 16
+  forest-leaves =
+      let k : r .k + 1 ≤ 36 = omega (arith, ready .fit .trees) in
+      mul-le-mul k (pow-mono (ready .fit .digits))
+
+  pub layer-leaves : 2 ^ r .h' ≤ 2 ^ 16
+  layer-leaves = pow-mono (ready .fit .heights)
+
+  pub seal-size : r .sealBytes ≡ r .n + forestSize r + r .d * layerSize r
+  unfolding forestBytes treeBytes layerBytes chainBytes
+  seal-size = seal-parts r (ready .legal)
+
+-- The layers' parts begin where the forest's ends.
+pub layers-start : (r : Row) → partStart r 2 ≡ r .n + forestSize r
+unfolding partStart forestBytes treeBytes
+layers-start r = omega (arith, zero-mul (layerBytes (r .n) (r .h')))
+
+-- ---- The pieces of a key, as code lends them
+
+module _ (n : ℕ) (x : Bytes) where
+  pub first-piece : take (n - 0) x ≡ piece n 0 x
+  first-piece =
+      ap (λ (k : ℕ). take k x) (sub-zero n) ∙ ap (λ (k : ℕ). take n (drop k x)) (sym (zero-mul n))
+
+  pub middle-piece : (i : ℕ) → take (i * n + n - i * n) (drop (i * n) x) ≡ piece n i x
+  middle-piece i = lent (i * n) n x
+
+  pub last-piece : (i : ℕ) → length x ≡ (i + 1) * n → take (length x - i * n) (drop (i * n) x) ≡ piece n i x
+  last-piece i long =
+      let left : length x - i * n ≡ n = omega (arith, long) in
+      ap (λ (k : ℕ). take k (drop (i * n) x)) left
