@@ -4,11 +4,12 @@
 use mathlib.Core.Path.{_≡_, sym, ap, ap₂, _∙_}
 use mathlib.Core.List.{List, [], _∷_, _++_, append-assoc, append-nil}
 use Prim.Native.Nat.{ℕ, suc, _+_, _-_, _*_, _/_, _%_, _^_, _≤_, _<_}
+use native.Mathlib.Nat.{sub-zero}
 use native.Mathlib.Numerals.{add-one}
 use native.Mathlib.Omega.{arith}
 use borrow.Rule.Slice.PartMut.{putMid}
 use lib.ListN.{length, take, drop, getD, drop-of-length-le}
-use lib.Seq.{drop-cons}
+use lib.Seq.{drop-cons, length-take-le}
 use Rattle.lists.proofs.Filling.{front-written, rest-written}
 use Rattle.rules.specs.Places.{Bytes, forestSecret, address}
 use Rattle.rules.specs.Calls.{PRF, Hashes}
@@ -16,6 +17,13 @@ use Rattle.rules.specs.Chains.{chainDigits, shown}
 use Rattle.rules.specs.Trees.{path}
 use Rattle.rules.specs.Layers.{layerTree, layerSeal, layerRoot, layersSeal}
 use Rattle.rules.specs.Forest.{forestTree, forestSeal}
+
+-- The front of a string, as code lends it, and its length.
+pub front : (m : ℕ) (l : Bytes) → take (m - 0) l ≡ take m l
+front m l = ap (λ (k : ℕ). take k l) (sub-zero m)
+
+pub front-long : (m : ℕ) (l : Bytes) → m ≤ length l → length (take (m - 0) l) ≡ m
+front-long m l h = ap length (front m l) ∙ length-take-le m l h
 
 -- A string whose first m bytes and whose rest were lent, one after the other, is what they came back as.
 pub both-written : (m : ℕ) (l xs ys : Bytes) → length xs ≡ m
@@ -85,3 +93,7 @@ module _ (w : Hashes) (h' : ℕ) (sk : Bytes) where
   layers-end top j t i M done ys h e q =
       let none : top - j ≡ 0 = omega arith in
       rw e (rw none at q)
+
+-- Above the number of a tree's leaf there is room for as many numbers as the tree has leaves.
+pub leaf-room : (h' size i : ℕ) → size ≡ 2 ^ h' → size + size ≤ 2 ^ 32 → i < size → i + 2 ^ h' ≤ 2 ^ 32
+leaf-room h' size i e h l = rw (sym e) (omega arith)

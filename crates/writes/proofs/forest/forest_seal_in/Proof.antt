@@ -1,4 +1,4 @@
--- `forest_seal_in` writes the trees' parts one after the other: what is written and what is left to write are the whole.
+-- `forest_seal_in` writes the trees' parts one after the other: what is written and what is left are the whole.
 -- Assumes nothing.
 use mathlib.Core.Path.{_≡_, refl, sym, ap, _∙_}
 use mathlib.Core.List.{_++_}

@@ -1,14 +1,11 @@
 -- `tree_seal_in` writes the secret value over the first bytes and the path over the rest.
 -- Assumes nothing.
-use mathlib.Core.Path.{_≡_, ap, _∙_}
+use mathlib.Core.Path.{_∙_}
 use Prim.Native.Nat.{_+_, _-_, _*_}
-use native.Mathlib.Nat.{sub-zero}
 use native.Mathlib.Omega.{arith}
-use lib.ListN.{length, take}
-use lib.Seq.{length-take-le}
 use borrow.Author.Needs.{needs}
 use Rattle.calls.specs.Hashes.{hashesOf}
-use Rattle.writes.proofs.WriteLaws.{tree-written}
+use Rattle.writes.proofs.WriteLaws.{front-long, tree-written}
 use Rattle.writes.proofs.forest.tree_seal_in.Statement.{statement}
 use Rattle.writes.proofs.forest.tree_seal_in.Tie as tie
 
@@ -18,8 +15,7 @@ returns c =
     let s = secret .before .before .before .before .before .before in
     let a = s .args in
     let n = a .kit .n in
-    let long = secret .secret-in .kept .1 .1 .1 .1 .0
-    ∙ ap (λ k. length (take k (a .out .now))) (sub-zero n) ∙ length-take-le n (a .out .now) (omega (arith, s .pre .1)) in
+    let long = secret .secret-in .kept .1 .1 .1 .1 .0 ∙ front-long n (a .out .now) (omega (arith, s .pre .1)) in
     tree-written (hashesOf (a .kit) (a .seed .now)) (a .tree) (a .pair) (a .a) (a .sk .now) (a .i) n (a .out .now) long
     (secret .before .before .address-at .ensures) (secret .secret-in .ensures) (c .before .before .path-in .ensures)
 

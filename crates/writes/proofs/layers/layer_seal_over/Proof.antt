@@ -2,16 +2,14 @@
 -- Assumes nothing.
 use mathlib.Core.Path.{_≡_, sym, ap, _∙_}
 use Prim.Native.Nat.{_+_, _-_, _*_, _<_}
-use native.Mathlib.Nat.{sub-zero}
 use native.Mathlib.Omega.{arith}
 use lib.ListN.{length, take}
-use lib.Seq.{length-take-le}
 use borrow.Author.Needs.{needs}
 use Rattle.lists.specs.Below.{Below}
 use Rattle.rules.specs.Chains.{chainDigits}
 use Rattle.rules.proofs.ChecksumLaws.{chainDigits-below}
 use Rattle.calls.specs.Hashes.{hashesOf}
-use Rattle.writes.proofs.WriteLaws.{layer-written}
+use Rattle.writes.proofs.WriteLaws.{front-long, layer-written}
 use Rattle.writes.proofs.layers.layer_seal_over.Statement.{statement}
 use Rattle.writes.proofs.layers.layer_seal_over.Tie as tie
 
@@ -32,8 +30,7 @@ read c =
     record {
       digits = c .chain-digits .ensures ∙ ap (λ k. chainDigits k (a .m .now)) (s .pre .0 .1);
       many = c .chain-digits .kept .1 .0 ∙ s .pre .1 .0;
-      front = ap (λ k. length (take k (a .out .now))) (sub-zero size)
-          ∙ length-take-le size (a .out .now) (omega (arith, s .pre .1 .1));
+      front = front-long size (a .out .now) (omega (arith, s .pre .1 .1));
     }
 
 shown-in-requires : tie.Need-shown-in-requires
