@@ -1,7 +1,6 @@
 -- `tree_seal_in` writes the secret value over the first bytes and the path over the rest.
 -- Assumes nothing.
 use mathlib.Core.Path.{_∙_}
-use Prim.Native.Nat.{_+_, _-_, _*_}
 use native.Mathlib.Omega.{arith}
 use borrow.Author.Needs.{needs}
 use Rattle.calls.specs.Hashes.{hashesOf}

@@ -1,11 +1,10 @@
 -- `layer_seal_over` reads the digits, and writes what the chains show over the first bytes and the path over the rest.
 -- Assumes nothing.
 use mathlib.Core.Path.{_≡_, sym, ap, _∙_}
-use Prim.Native.Nat.{_+_, _-_, _*_, _<_}
+use Prim.Native.Nat.{_+_, _-_, _*_}
 use native.Mathlib.Omega.{arith}
 use lib.ListN.{length, take}
 use borrow.Author.Needs.{needs}
-use Rattle.lists.specs.Below.{Below}
 use Rattle.rules.specs.Chains.{chainDigits}
 use Rattle.rules.proofs.ChecksumLaws.{chainDigits-below}
 use Rattle.calls.specs.Hashes.{hashesOf}

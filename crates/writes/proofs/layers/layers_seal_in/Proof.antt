@@ -1,13 +1,13 @@
 -- `layers_seal_in` writes the layers' parts one after the other, each for the root that the one below leads to: what is
 -- written and what is left to write are the whole.
 -- Assumes nothing.
-use mathlib.Core.Path.{_≡_, refl, sym, ap, _∙_}
+use mathlib.Core.Path.{_≡_, refl, ap, _∙_}
 use mathlib.Core.List.{_++_}
-use Prim.Native.Nat.{_+_, _-_, _*_, _/_, _%_, _^_, _≤_, _<_}
+use Prim.Native.Nat.{_+_, _-_, _*_, _^_, _≤_, _<_}
 use native.Mathlib.Nat.{mod-lt}
 use native.Mathlib.Numerals.{unary-clauses}
 use native.Mathlib.Omega.{arith}
-use lib.ListN.{length, take, drop, length-drop}
+use lib.ListN.{length, take, length-drop}
 use borrow.Author.Needs.{needs}
 use Rattle.lists.proofs.Parts.{piece-room}
 use Rattle.lists.proofs.Filling.{part-written, part-length, lent-length, rest-read, rest-written}
