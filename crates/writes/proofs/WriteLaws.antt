@@ -19,7 +19,7 @@ use Rattle.rules.specs.Layers.{layerTree, layerSeal, layerRoot, layersSeal}
 use Rattle.rules.specs.Forest.{forestTree, forestSeal}
 
 -- The front of a string, as code lends it, and its length.
-pub front : (m : ℕ) (l : Bytes) → take (m - 0) l ≡ take m l
+front : (m : ℕ) (l : Bytes) → take (m - 0) l ≡ take m l
 front m l = ap (λ (k : ℕ). take k l) (sub-zero m)
 
 pub front-long : (m : ℕ) (l : Bytes) → m ≤ length l → length (take (m - 0) l) ≡ m
@@ -75,24 +75,26 @@ module _ (w : Hashes) (h' : ℕ) (sk : Bytes) where
   layer-written l t i size m out {ds} {xs} {ys} long e f g =
       both-written size out xs ys long ∙ ap₂ _++_ (f ∙ ap (λ x. shown w l t i sk 0 x .result) e) g
 
-  -- A turn of the layers: layer j's part, and then those above it, for the root that it leads to.
-  pub layers-turn : (top j t i size : ℕ) (M done ys root : Bytes) {whole : Bytes} → j < top → size ≡ 2 ^ h'
-      → ys ≡ layerSeal w h' sk j t i M .result → root ≡ layerRoot w h' j t i ys M .result
-      → done ++ layersSeal w h' sk (top - j) j t i M .result ≡ whole
+  -- A turn of the layers: layer j's part, and then those above it, for the root that it leads to. The value v is lent
+  -- with its first n bytes.
+  pub layers-turn : (top j t i size n : ℕ) (v done ys root : Bytes) {whole : Bytes} → j < top → size ≡ 2 ^ h'
+      → ys ≡ layerSeal w h' sk j t i (take (n - 0) v) .result
+      → root ≡ layerRoot w h' j t i ys (take (n - 0) v) .result
+      → done ++ layersSeal w h' sk (top - j) j t i (take n v) .result ≡ whole
       → (done ++ ys) ++ layersSeal w h' sk (top - (j + 1)) (j + 1) (t / size) (t % size) root .result ≡ whole
   unfolding layersSeal
-  layers-turn top j t i size M done ys root h s e f q =
+  layers-turn top j t i size n v done ys root h s e f q =
       let left : top - j ≡ suc (top - suc j) = omega arith in
-      rw (append-assoc, f, e, s, add-one j) (rw left at q)
+      rw (append-assoc, f, e, s, add-one j, front n v) (rw left at q)
 
   -- At the top the one layer is left.
-  pub layers-end : (top j t i : ℕ) (M done ys : Bytes) {whole : Bytes} → top ≤ j
-      → ys ≡ layerSeal w h' sk j t i M .result
-      → done ++ layersSeal w h' sk (top - j) j t i M .result ≡ whole → done ++ ys ≡ whole
+  pub layers-end : (top j t i n : ℕ) (v done ys : Bytes) {whole : Bytes} → top ≤ j
+      → ys ≡ layerSeal w h' sk j t i (take (n - 0) v) .result
+      → done ++ layersSeal w h' sk (top - j) j t i (take n v) .result ≡ whole → done ++ ys ≡ whole
   unfolding layersSeal
-  layers-end top j t i M done ys h e q =
+  layers-end top j t i n v done ys h e q =
       let none : top - j ≡ 0 = omega arith in
-      rw e (rw none at q)
+      rw (e, front n v) (rw none at q)
 
 -- Above the number of a tree's leaf there is room for as many numbers as the tree has leaves.
 pub leaf-room : (h' size i : ℕ) → size ≡ 2 ^ h' → size + size ≤ 2 ^ 32 → i < size → i + 2 ^ h' ≤ 2 ^ 32

@@ -33,22 +33,10 @@ pub fn tree_seal_in(
         (forestTree (hashesOf kit (now (seed .entry))) tree pair (now (sk .entry))) a 0 i .result ⌝ }
 {
     let n = kit.n;
-    secret_in(
-        kit,
-        seed,
-        address_at(6, 0, tree, pair, 0, i),
-        sk,
-        &mut out[0..n],
-    );
-    path_in(
-        kit,
-        seed,
-        sk,
-        Grove::Forest(tree, pair),
-        a,
-        i,
-        &mut out[n..],
-    );
+    let secret = address_at(6, 0, tree, pair, 0, i);
+    secret_in(kit, seed, secret, sk, &mut out[0..n]);
+    let grove = Grove::Forest(tree, pair);
+    path_in(kit, seed, sk, grove, a, i, &mut out[n..]);
 }
 
 // All trees' parts, one after the other: in tree j the leaf that the digit j tells.

@@ -42,15 +42,8 @@ fn layer_seal_over(
     };
     chain_digits(m, ds);
     shown_in(kit, seed, sk, spot, ds, &mut out[0..size]);
-    path_in(
-        kit,
-        seed,
-        sk,
-        Grove::Layer(layer, tree),
-        hp,
-        i,
-        &mut out[size..],
-    );
+    let grove = Grove::Layer(layer, tree);
+    path_in(kit, seed, sk, grove, hp, i, &mut out[size..]);
 }
 
 // A layer's part: what the chains of leaf i show for the value m, and the leaf's path.

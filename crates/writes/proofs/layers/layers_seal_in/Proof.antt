@@ -11,11 +11,11 @@ use lib.ListN.{length, take, length-drop}
 use borrow.Author.Needs.{needs}
 use Rattle.lists.proofs.Parts.{piece-room}
 use Rattle.lists.proofs.Filling.{part-written, part-length, lent-length, rest-read, rest-written}
-use Rattle.rules.specs.Layers.{layerSeal, layerRoot, layersSeal}
+use Rattle.rules.specs.Layers.{layersSeal}
 use Rattle.calls.specs.Hashes.{hashesOf}
 use Rattle.chains.proofs.Loops.{size-fits}
 use Rattle.walks.proofs.WalkLaws.{small-product}
-use Rattle.writes.proofs.WriteLaws.{front, front-long, leaf-room, layers-turn, layers-end}
+use Rattle.writes.proofs.WriteLaws.{front-long, leaf-room, layers-turn, layers-end}
 use Rattle.writes.proofs.layers.layers_seal_in.Statement.{statement}
 use Rattle.writes.proofs.layers.layers_seal_in.Tie as tie
 
@@ -112,22 +112,18 @@ loop-again c =
     let l = turn .before .loop in
     let n = a .kit .n in
     let step = (2 * n + 3) * n + a .hp * n in
-    let w = hashesOf (a .kit) (a .seed .now) in
     let up = c .before .before .layer-up-in in
     let ys = up .last .1 .1 .1 .1 .1 .1 .1 .1 .0 in
-    let long = up .kept .1 .1 .1 .1 .1 .1 .1 .1 .0 ∙ lent-length (l .at) step (l .out) (room turn) in
-    let wrote = up .ensures .0
-    ∙ ap (λ x. layerSeal w (a .hp) (a .sk .now) (l .j) (l .t) (l .k) x .result) (front n (l .v)) in
-    let root = up .ensures .1 ∙ ap (λ x. layerRoot w (a .hp) (l .j) (l .t) (l .k) ys x .result) (front n (l .v)) in (
+    let long = up .kept .1 .1 .1 .1 .1 .1 .1 .1 .0 ∙ lent-length (l .at) step (l .out) (room turn) in (
       omega arith,
       omega (arith, l .inv .1),
       mod-lt (l .t) (leaves c),
       search needs,
       part-length (l .at) step (l .out) ys (room turn) long ∙ l .inv .4,
       rw (part-written (l .at) step (l .out) ys (room turn) long)
-          (layers-turn w (a .hp) (a .sk .now) (a .d - 1) (l .j) (l .t) (l .k) (a .size) (take n (l .v))
-          (take (l .at) (l .out)) ys (take n (up .result)) (turn .loop-test .taken) (s .pre .0 .leaves) wrote root
-          (l .inv .5)),
+          (layers-turn (hashesOf (a .kit) (a .seed .now)) (a .hp) (a .sk .now) (a .d - 1) (l .j) (l .t) (l .k) (a .size) n
+          (l .v) (take (l .at) (l .out)) ys (take n (up .result)) (turn .loop-test .taken) (s .pre .0 .leaves)
+          (up .ensures .0) (up .ensures .1) (l .inv .5)),
     )
 
 layer-seal-in-requires : tie.Need-layer-seal-in-requires Inv-loop μ-loop
@@ -146,14 +142,11 @@ returns c =
     let end = c .before .before .before .before .before .before in
     let a = end .before .before .before .before .before .args in
     let l = end .before .loop in
-    let w = hashesOf (a .kit) (a .seed .now) in
     let last = c .before .before .layer-seal-in in
     let ys = last .last .1 .1 .1 .1 .1 .1 .1 .1 .0 in
-    let wrote = last .ensures
-    ∙ ap (λ x. layerSeal w (a .hp) (a .sk .now) (l .j) (l .t) (l .k) x .result) (front (a .kit .n) (l .v)) in
     rest-written (l .at) (l .out) ys
-    ∙ layers-end w (a .hp) (a .sk .now) (a .d - 1) (l .j) (l .t) (l .k) (take (a .kit .n) (l .v))
-    (take (l .at) (l .out)) ys (omega arith) wrote (l .inv .5)
+    ∙ layers-end (hashesOf (a .kit) (a .seed .now)) (a .hp) (a .sk .now) (a .d - 1) (l .j) (l .t) (l .k) (a .kit .n)
+    (l .v) (take (l .at) (l .out)) ys (omega arith) (last .ensures) (l .inv .5)
 
 pub layers-seal-in-spec : {M : Type 1} → statement M
 layers-seal-in-spec =
