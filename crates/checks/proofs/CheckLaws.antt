@@ -116,42 +116,30 @@ module _ (r : Row) (f : Family (r .n) (r .m)) (pk : Bytes) (at : Pointed) (seal 
         up-most (under f pk) (r .h') (suc (r .d - 1)) 0 (at .tree) (at .leaf) v (rest r seal) (ready .fit .values),
       )
 
--- A place is the one pointed to where its three numbers are.
-pub pointed-at : (r : Row) (D : Bytes) {is : List ℕ} {t l : ℕ} → is ≡ pointed r D .indices → t ≡ pointed r D .tree
-    → l ≡ pointed r D .leaf → _≡_ {A = Pointed} (record { indices = is; tree = t; leaf = l }) (pointed r D)
-pointed-at r D e f g = rw (e, f, g)
-
 -- ---- The whole check, on a public key as bytes and a message
 
-module _ (r : Row) (f : Family (r .n) (r .m)) (public message seal : Bytes) (long : length public ≡ 2 * r .n) where
-  D : Bytes
-  D = f .Hmsg (part r 0 seal) (piece (r .n) 0 public) (piece (r .n) 1 public) (frame message)
-
-  -- The digest, of the seal's randomizer and the two pieces of the key.
-  digest-is : {digest : Bytes} → digest ≡ f .Hmsg (take (r .n - 0) seal) (take (r .n - 0) public)
-      (take (length public - r .n) (drop (r .n) public)) ((0 ∷ 0 ∷ []) ++ message) → digest ≡ D
-  unfolding D part partStart partLength frame
-  digest-is e =
+module _ (r : Row) (f : Family (r .n) (r .m)) (public message seal : Bytes) (long : length public ≡ 2 * r .n)
+    {p : Pointed} (e : p ≡ pointed r (digestOf r f (take (r .n - 0) seal) (take (r .n - 0) public)
+    (take (length public - r .n) (drop (r .n) public)) (frame message) .result)) where
+  -- The place, by the seal's randomizer and the two pieces of the key.
+  place-is : p ≡ pointed r (digestOf r f (part r 0 seal) (piece (r .n) 0 public) (piece (r .n) 1 public)
+      (frame message) .result)
+  unfolding part partStart partLength
+  place-is =
       let root : take (length public - r .n) (drop (r .n) public) ≡ piece (r .n) 1 public =
       ap (λ k. take (length public - k) (drop k public)) (omega arith) ∙ last-piece (r .n) public 1 (omega (arith, long)) in
-      e ∙ ap₂ (λ R k. f .Hmsg R k (take (length public - r .n) (drop (r .n) public)) (frame message))
-      (ap (λ k. take k seal) (sub-zero (r .n))) (first-piece (r .n) public)
-      ∙ ap (λ x. f .Hmsg (part r 0 seal) (piece (r .n) 0 public) x (frame message)) root
+      e ∙ ap₂ (λ R k. pointed r (digestOf r f R k (take (length public - r .n) (drop (r .n) public)) (frame message)
+      .result)) (ap (λ k. take k seal) (sub-zero (r .n))) (first-piece (r .n) public)
+      ∙ ap (λ x. pointed r (digestOf r f (part r 0 seal) (piece (r .n) 0 public) x (frame message) .result)) root
 
-  module _ {digest : Bytes} (e : digest ≡ f .Hmsg (take (r .n - 0) seal) (take (r .n - 0) public)
-      (take (length public - r .n) (drop (r .n) public)) ((0 ∷ 0 ∷ []) ++ message))
-      {at : Pointed} (g : at ≡ pointed r digest) where
-    pub checked-made : {root : Bytes} → root ≡ rootAt r f (take (r .n - 0) public) seal at .result
-        → root ≡ checkedRoot r f public (frame message) seal .result
-    unfolding checkedRoot digestOf D
-    checked-made h =
-        h ∙ ap₂ (λ k p. rootAt r f k seal p .result) (first-piece (r .n) public)
-        (g ∙ ap (pointed r) (digest-is e))
+  pub checked-made : {root : Bytes} → root ≡ rootAt r f (take (r .n - 0) public) seal p .result
+      → root ≡ checkedRoot r f public (frame message) seal .result
+  unfolding checkedRoot
+  checked-made h = h ∙ ap₂ (λ k q. rootAt r f k seal q .result) (first-piece (r .n) public) place-is
 
-    pub checked-calls : {calls : ℕ} → calls ≡ count (of F) (rootAt r f (take (r .n - 0) public) seal at .calls)
-        → calls ≡ count (of F) (checkedRoot r f public (frame message) seal .calls)
-    unfolding checkedRoot digestOf D count is
-    checked-calls h =
-        h ∙ ap₂ (λ k p. count (of F) (rootAt r f k seal p .calls)) (first-piece (r .n) public)
-        (g ∙ ap (pointed r) (digest-is e))
-        ∙ sym (zero-add _)
+  pub checked-calls : {calls : ℕ} → calls ≡ count (of F) (rootAt r f (take (r .n - 0) public) seal p .calls)
+      → calls ≡ count (of F) (checkedRoot r f public (frame message) seal .calls)
+  unfolding checkedRoot digestOf count is
+  checked-calls h =
+      h ∙ ap₂ (λ k q. count (of F) (rootAt r f k seal q .calls)) (first-piece (r .n) public) place-is
+      ∙ sym (zero-add _)

@@ -9,13 +9,12 @@ ghost use Rattle.rules.specs.Seal.{frame};
 ghost use Rattle.rules.specs.Check.{rootAt, checkedRoot};
 ghost use Rattle.calls.specs.Rows.{ruledRow};
 ghost use Rattle.points.specs.Ready.{Ready, familyFor};
-ghost use Rattle.checks.specs.At.{at};
+ghost use Rattle.points.specs.At.{at};
 use calls::hashes::Kit;
-use calls::hashes::digest_in;
 use calls::rows::Row;
 use chains::Walked;
 use points::Pointed;
-use points::point;
+use points::aim;
 use walks::forest::forest_root;
 use walks::layers::layers_root;
 
@@ -47,17 +46,10 @@ pub fn root_at(row: Row, seed: &[u8], place: Pointed, indices: &[u32], seal: &[u
     }
 }
 
-// The root that a seal of a message leads to under a public key, with room lent for the digest and its digits.
-fn checked_root_over(
-    row: Row,
-    public: &[u8],
-    message: &[u8],
-    seal: &[u8],
-    digest: &mut [u8],
-    indices: &mut [u32],
-) -> Walked
-    requires { ⌜ Ready (ruledRow row) × (length (now public) ≡ row .public) × (length (now seal) ≡ row .seal) ⌝ }
-    requires { ⌜ (length (now digest) ≡ row .m) × (length (now indices) ≡ row .k) ⌝ }
+// The root that a seal of a message leads to under a public key, with room lent for the forest's digits.
+fn checked_root_over(row: Row, public: &[u8], message: &[u8], seal: &[u8], indices: &mut [u32]) -> Walked
+    requires { ⌜ Ready (ruledRow row) × (length (now public) ≡ row .public) × (length (now seal) ≡ row .seal)
+        × (length (now indices) ≡ row .k) ⌝ }
     ensures { λ r. ⌜ take (row .n) (r .value) ≡ checkedRoot (ruledRow row) (familyFor (ruledRow row))
         (now (public .entry)) (frame (now (message .entry))) (now (seal .entry)) .result ⌝ }
     ensures { λ r. ⌜ r .calls ≡ count (Kind.of Function.F) (checkedRoot (ruledRow row) (familyFor (ruledRow row))
@@ -65,18 +57,14 @@ fn checked_root_over(
     ensures { λ r. ⌜ length (r .value) ≡ 32 ⌝ }
 {
     let n = row.n;
-    let kit = Kit { n: n, m: row.m };
-    let before = [0u8; 2];
-    digest_in(
-        kit,
+    let place = aim(
+        row,
         &seal[0..n],
         &public[0..n],
         &public[n..],
-        &before,
         message,
-        digest,
+        indices,
     );
-    let place = point(row, digest, indices);
     root_at(row, &public[0..n], place, indices, seal)
 }
 
@@ -89,16 +77,7 @@ pub fn checked_root(row: Row, public: &[u8], message: &[u8], seal: &[u8]) -> Wal
         (now (public .entry)) (frame (now (message .entry))) (now (seal .entry)) .calls) ⌝ }
     ensures { λ r. ⌜ length (r .value) ≡ 32 ⌝ }
 {
-    let m = row.m;
     let k = row.k as usize;
-    let mut digest = [0u8; 64];
     let mut indices = [0u32; 35];
-    checked_root_over(
-        row,
-        public,
-        message,
-        seal,
-        &mut digest[0..m],
-        &mut indices[0..k],
-    )
+    checked_root_over(row, public, message, seal, &mut indices[0..k])
 }

@@ -3,8 +3,12 @@ ghost use mathlib.Core.Path.{_≡_};
 ghost use Prim.Native.Nat.{_≤_};
 ghost use lib.ListN.{length};
 ghost use Rattle.rules.specs.Digest.{lastBits, pointed};
+ghost use Rattle.rules.specs.Seal.{frame, digestOf};
 ghost use Rattle.calls.specs.Rows.{ruledRow};
-ghost use Rattle.points.specs.Ready.{Ready};
+ghost use Rattle.points.specs.At.{at};
+ghost use Rattle.points.specs.Ready.{Ready, familyFor};
+use calls::hashes::Kit;
+use calls::hashes::digest_in;
 use calls::rows::Row;
 use digits::digits;
 use digits::number;
@@ -27,9 +31,7 @@ fn last_bits(bits: u32, x: &[u8]) -> u64
 // The tree and the leaf that a digest points to; the forest's digits are written to the list lent.
 pub fn point(row: Row, digest: &[u8], indices: &mut [u32]) -> Pointed
     requires { ⌜ Ready (ruledRow row) × (length (now digest) ≡ row .m) × (length (now indices) ≡ row .k) ⌝ }
-    ensures { λ _. ⌜ now (indices .exit) ≡ pointed (ruledRow row) (now (digest .entry)) .indices ⌝ }
-    ensures { λ r. ⌜ r .tree ≡ pointed (ruledRow row) (now (digest .entry)) .tree ⌝ }
-    ensures { λ r. ⌜ r .leaf ≡ pointed (ruledRow row) (now (digest .entry)) .leaf ⌝ }
+    ensures { λ r. ⌜ at r (now (indices .exit)) ≡ pointed (ruledRow row) (now (digest .entry)) ⌝ }
 {
     let bits = row.h - row.hp;
     let forest = ((row.k * row.a + 7) / 8) as usize;
@@ -41,4 +43,47 @@ pub fn point(row: Row, digest: &[u8], indices: &mut [u32]) -> Pointed
         tree: tree,
         leaf: leaf,
     }
+}
+
+// Where a message points with its randomizer under a key, with room lent for the digest.
+fn aim_over(
+    row: Row,
+    r: &[u8],
+    seed: &[u8],
+    root: &[u8],
+    message: &[u8],
+    digest: &mut [u8],
+    indices: &mut [u32],
+) -> Pointed
+    requires { ⌜ Ready (ruledRow row) × (length (now digest) ≡ row .m) × (length (now indices) ≡ row .k) ⌝ }
+    ensures { λ p. ⌜ at p (now (indices .exit)) ≡ pointed (ruledRow row) (digestOf (ruledRow row)
+        (familyFor (ruledRow row)) (now (r .entry)) (now (seed .entry)) (now (root .entry))
+        (frame (now (message .entry))) .result) ⌝ }
+{
+    let kit = Kit {
+        n: row.n,
+        m: row.m,
+    };
+    let before = [0u8; 2];
+    digest_in(kit, r, seed, root, &before, message, digest);
+    point(row, digest, indices)
+}
+
+// Where a message points with its randomizer under a key.
+pub fn aim(
+    row: Row,
+    r: &[u8],
+    seed: &[u8],
+    root: &[u8],
+    message: &[u8],
+    indices: &mut [u32],
+) -> Pointed
+    requires { ⌜ Ready (ruledRow row) × (length (now indices) ≡ row .k) ⌝ }
+    ensures { λ p. ⌜ at p (now (indices .exit)) ≡ pointed (ruledRow row) (digestOf (ruledRow row)
+        (familyFor (ruledRow row)) (now (r .entry)) (now (seed .entry)) (now (root .entry))
+        (frame (now (message .entry))) .result) ⌝ }
+{
+    let m = row.m;
+    let mut digest = [0u8; 64];
+    aim_over(row, r, seed, root, message, &mut digest[0..m], indices)
 }

@@ -5,7 +5,7 @@ use borrow.Author.Needs.{needs}
 use Rattle.calls.specs.Rows.{ruledRow}
 use Rattle.points.specs.Ready.{familyFor}
 use Rattle.points.proofs.SizeLaws.{tree-room}
-use Rattle.checks.specs.At.{at}
+use Rattle.points.specs.At.{at}
 use Rattle.checks.proofs.CheckLaws.{wood, stack, root-made, root-calls, few-calls}
 use Rattle.checks.proofs.root_at.Statement.{statement}
 use Rattle.checks.proofs.root_at.Tie as tie

@@ -4,7 +4,7 @@ use native.Mathlib.Omega.{arith}
 use native.Mathlib.Nat.{sub-zero}
 use borrow.Author.Needs.{needs}
 use Rattle.calls.specs.Rows.{ruledRow}
-use Rattle.points.proofs.PointLaws.{bits-fit, height-le, forest-bits, indices-read, tree-read, leaf-read}
+use Rattle.points.proofs.PointLaws.{bits-fit, height-le, forest-bits, indices-read, tree-read, leaf-read, pointed-at}
 use Rattle.points.proofs.point.Statement.{statement}
 use Rattle.points.proofs.point.Tie as tie
 
@@ -30,13 +30,11 @@ returns : tie.Need-returns
 returns c =
     let s = c .before .before .before .before .before .before .before .before .before .before .before .before .before in
     let r = ruledRow (s .args .row) in
-    let D = s .args .digest .now in (
-      indices-read r D _ (s .pre .2) (c .before .before .before .before .before .before .digits .ensures),
-      (
-        tree-read r D (c .before .before .last-bits .ensures),
-        leaf-read r D (s .pre .0 .legal) (s .pre .1) (c .last-bits2 .ensures),
-      ),
-    )
+    let D = s .args .digest .now in
+    pointed-at r D
+    (indices-read r D _ (s .pre .2) (c .before .before .before .before .before .before .digits .ensures))
+    (tree-read r D (c .before .before .last-bits .ensures))
+    (leaf-read r D (s .pre .0 .legal) (s .pre .1) (c .last-bits2 .ensures))
 
 pub point-spec : {M : Type 1} → statement M
 point-spec =
