@@ -47,7 +47,13 @@ pub fn root_at(row: Row, seed: &[u8], place: Pointed, indices: &[u32], seal: &[u
 }
 
 // The root that a seal of a message leads to under a public key, with room lent for the forest's digits.
-fn checked_root_over(row: Row, public: &[u8], message: &[u8], seal: &[u8], indices: &mut [u32]) -> Walked
+fn checked_root_over(
+    row: Row,
+    public: &[u8],
+    message: &[u8],
+    seal: &[u8],
+    indices: &mut [u32],
+) -> Walked
     requires { ⌜ Ready (ruledRow row) × (length (now public) ≡ row .public) × (length (now seal) ≡ row .seal)
         × (length (now indices) ≡ row .k) ⌝ }
     ensures { λ r. ⌜ take (row .n) (r .value) ≡ checkedRoot (ruledRow row) (familyFor (ruledRow row))

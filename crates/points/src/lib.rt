@@ -60,10 +60,7 @@ fn aim_over(
         (familyFor (ruledRow row)) (now (r .entry)) (now (seed .entry)) (now (root .entry))
         (frame (now (message .entry))) .result) ⌝ }
 {
-    let kit = Kit {
-        n: row.n,
-        m: row.m,
-    };
+    let kit = Kit { n: row.n, m: row.m };
     let before = [0u8; 2];
     digest_in(kit, r, seed, root, &before, message, digest);
     point(row, digest, indices)

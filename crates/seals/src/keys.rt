@@ -16,10 +16,7 @@ pub fn key_root(row: Row, secret_seed: &[u8], public_seed: &[u8]) -> [u8; 32]
     ensures { λ r. ⌜ take (row .n) r ≡ keyRoot (ruledRow row) (familyFor (ruledRow row)) (now (secret_seed .entry))
         (now (public_seed .entry)) .result ⌝ }
 {
-    let kit = Kit {
-        n: row.n,
-        m: row.m,
-    };
+    let kit = Kit { n: row.n, m: row.m };
     let top = Grove::Layer(row.d - 1, 0);
     node(kit, public_seed, secret_seed, top, row.hp, 0)
 }
