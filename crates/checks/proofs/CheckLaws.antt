@@ -2,17 +2,14 @@
 -- Assumes nothing.
 use mathlib.Core.Path.{_≡_, refl, sym, ap, ap₂, _∙_}
 use mathlib.Core.List.{List, [], _∷_, _++_}
-use Prim.Native.Nat.{ℕ, suc, _+_, _-_, _*_, _%_, _^_, _≤_, _<_}
+use Prim.Native.Nat.{ℕ, suc, _+_, _-_, _*_, _^_, _≤_, _<_}
 use native.Mathlib.Nat.{sub-zero, zero-add}
 use native.Mathlib.Omega.{arith}
 use lib.ListN.{length, take, drop, length-drop}
-use lib.Pow.{pow-mono}
-use Rattle.lists.proofs.Bits.{one-shifted}
 use Rattle.lists.proofs.Lent.{lent}
 use Rattle.lists.proofs.Filling.{rest-read, lent-length}
 use Rattle.rules.specs.Places.{Bytes}
 use Rattle.rules.specs.Calls.{F, of, Family, Hashes, under, Run, _>>=_}
-use Rattle.rules.specs.Chains.{chains}
 use Rattle.rules.specs.Layers.{layersRoot}
 use Rattle.rules.specs.Forest.{treeBytes, forestBytes, forestRoot}
 use Rattle.rules.specs.Digest.{Row, Pointed, pointed}
@@ -22,18 +19,13 @@ use Rattle.rules.specs.Check.{layersPart, rootAt, checkedRoot}
 use Rattle.rules.specs.Counts.{is, count}
 use Rattle.rules.proofs.CountLaws.{count-append}
 use Rattle.points.specs.Ready.{Ready}
-use Rattle.points.proofs.SizeLaws.{forestSize, layerSize, forest-leaves, layer-leaves, seal-size, layers-start, first-piece, last-piece}
-use Rattle.walks.specs.Shapes.{Wood, Stack}
+use Rattle.points.proofs.SizeLaws.{forestSize, layerSize, seal-size, layers-start, first-piece, last-piece}
 use Rattle.walks.proofs.WalkLaws.{forest-calls}
 use Rattle.walks.proofs.UpLaws.{up-calls, up-most}
-use Rattle.calls.specs.declared.hashes.Kit.{Kit}
 
 -- ---- The two parts that are walked
 
 module _ (r : Row) where
-  abbrev pub kitOf : Kit
-  kitOf = record { n = r .n; m = r .m }
-
   -- Where the forest's part ends.
   abbrev pub end : ℕ
   end = r .n + forestSize r
@@ -46,30 +38,11 @@ module _ (r : Row) where
     rest = take (length seal - end) (drop end seal)
 
     module _ (ready : Ready r) (long : length seal ≡ r .sealBytes) where
-      -- They have the sizes that the walks need.
-      pub wood : (trees : ℕ) → trees ≡ r .k → Wood kitOf (r .a) trees (length forestPart)
-      wood trees e = record {
-        small = ready .fit .values;
-        few = omega (arith, e, ready .fit .trees);
-        low = omega (arith, ready .fit .digits);
-        leaves = rw e (omega (arith, forest-leaves r ready));
-        sig-long = rw e (lent-length (r .n) (forestSize r) seal (omega (arith, long, seal-size r ready)));
-      }
+      pub forest-long : length forestPart ≡ forestSize r
+      forest-long = lent-length (r .n) (forestSize r) seal (omega (arith, long, seal-size r ready))
 
-      rest-long : length rest ≡ r .d * layerSize r
+      pub rest-long : length rest ≡ r .d * layerSize r
       rest-long = ap length (rest-read end seal) ∙ length-drop end seal ∙ omega (arith, long, seal-size r ready)
-
-      pub stack : Stack kitOf (r .h') (1 * 2 ^ r .h' % 2 ^ 64) (r .d) (length rest)
-      stack =
-          let size : 1 * 2 ^ r .h' % 2 ^ 64 ≡ 2 ^ r .h' = one-shifted (r .h') 64 (omega (arith, ready .fit .heights)) in
-          record {
-            small = ready .fit .values;
-            leaves = size;
-            counted = rw size (omega (arith, layer-leaves r ready));
-            some = ready .legal .some-layer;
-            few = omega (arith, ready .fit .layers);
-            sig-long = rest-long;
-          }
 
 -- ---- The root at a place
 

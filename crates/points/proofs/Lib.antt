@@ -2,3 +2,4 @@
 pub mod ReadyLaws
 pub mod PointLaws
 pub mod SizeLaws
+pub mod ShapeLaws

@@ -2,7 +2,7 @@
 -- Assumes nothing.
 use mathlib.Core.Path.{_≡_, sym, ap, _∙_}
 use Prim.Native.Nat.{ℕ, _+_, _-_, _*_, _^_, _≤_, _<_}
-use native.Mathlib.Nat.{mul-le-mul, le-trans, sub-zero, zero-mul}
+use native.Mathlib.Nat.{mul-le-mul, le-trans, sub-zero, zero-mul, one-mul}
 use native.Mathlib.Omega.{arith}
 use lib.ListN.{length, take, drop}
 use lib.Pow.{pow-mono}
@@ -57,8 +57,13 @@ module _ (n : ℕ) (x : Bytes) where
   first-piece =
       ap (λ (k : ℕ). take k x) (sub-zero n) ∙ ap (λ (k : ℕ). take n (drop k x)) (sym (zero-mul n))
 
-  pub middle-piece : (i : ℕ) → take (i * n + n - i * n) (drop (i * n) x) ≡ piece n i x
-  middle-piece i = lent (i * n) n x
+  pub second-piece : take (n + n - n) (drop n x) ≡ piece n 1 x
+  second-piece = lent n n x ∙ ap (λ (k : ℕ). take n (drop k x)) (sym (one-mul n))
+
+  pub third-piece : take (3 * n - 2 * n) (drop (2 * n) x) ≡ piece n 2 x
+  third-piece =
+      let left : 3 * n - 2 * n ≡ n = omega arith in
+      ap (λ (k : ℕ). take k (drop (2 * n) x)) left
 
   pub last-piece : (i : ℕ) → length x ≡ (i + 1) * n → take (length x - i * n) (drop (i * n) x) ≡ piece n i x
   last-piece i long =

@@ -5,8 +5,9 @@ use borrow.Author.Needs.{needs}
 use Rattle.calls.specs.Rows.{ruledRow}
 use Rattle.points.specs.Ready.{familyFor}
 use Rattle.points.proofs.SizeLaws.{tree-room}
+use Rattle.points.proofs.ShapeLaws.{wood, stack}
 use Rattle.points.specs.At.{at}
-use Rattle.checks.proofs.CheckLaws.{wood, stack, root-made, root-calls, few-calls}
+use Rattle.checks.proofs.CheckLaws.{forest-long, rest-long, root-made, root-calls, few-calls}
 use Rattle.checks.proofs.root_at.Statement.{statement}
 use Rattle.checks.proofs.root_at.Tie as tie
 
@@ -23,12 +24,15 @@ add-end c =
 forest-root-requires : tie.Need-forest-root-requires
 forest-root-requires c κs =
     let s = c .before .before .before .before .before .before in
-    (wood (ruledRow (s .args .row)) (s .args .seal .now) (s .pre .0 .0) (s .pre .0 .1) _ (s .pre .1 .0), s .pre .1 .1)
+    let r = ruledRow (s .args .row) in
+    let long = forest-long r (s .args .seal .now) (s .pre .0 .0) (s .pre .0 .1) in
+    (wood r (s .pre .0 .0) _ _ (s .pre .1 .0) long, s .pre .1 .1)
 
 layers-root-requires : tie.Need-layers-root-requires
 layers-root-requires c κs =
     let s = c .before .before .before .before .before .before .before .before .before .before in
-    stack (ruledRow (s .args .row)) (s .args .seal .now) (s .pre .0 .0) (s .pre .0 .1)
+    let r = ruledRow (s .args .row) in
+    stack r (s .pre .0 .0) _ (rest-long r (s .args .seal .now) (s .pre .0 .0) (s .pre .0 .1))
 
 add-t30 : tie.Need-add-t30
 add-t30 c =
