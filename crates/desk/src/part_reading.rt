@@ -1,0 +1,89 @@
+// Part reading: a part is handed out as it lies in the seal.
+ghost use mathlib.Core.Path.{_≡_};
+ghost use mathlib.Core.Bool.{true};
+ghost use mathlib.Core.Option.{some};
+ghost use Prim.Native.Nat.{_+_, _≤_};
+ghost use lib.Dec.{eqb, leb};
+ghost use lib.ListN.{length};
+ghost use Rattle.rules.specs.Sets.{rowOf};
+ghost use Rattle.rules.specs.Seal.{partStart, partLength};
+ghost use Rattle.calls.specs.Rows.{ruledRow};
+ghost use Rattle.points.specs.Ready.{Ready};
+ghost use Rattle.desk.specs.Answers.{number as numberOf};
+ghost use Rattle.desk.specs.Parts.{partAnswer, partGiven};
+use crate::answers::Answer;
+use crate::answers::done;
+use crate::answers::first_failed;
+use calls::rows::Found;
+use calls::rows::Row;
+use calls::rows::find_row;
+
+// Where a part starts, and how long it is.
+fn part_start(row: Row, number: u32) -> usize
+    requires { ⌜ Ready (ruledRow row) × (number ≤ row .d + 1) ⌝ }
+    ensures { λ r. ⌜ r ≡ partStart (ruledRow row) number ⌝ }
+{
+    let n = row.n;
+    let layer = (2 * n + 3) * n + (row.hp as usize) * n;
+    let forest = (row.k as usize) * (n + (row.a as usize) * n);
+    match number {
+        0 => 0,
+        1 => n,
+        _ => n + forest + ((number - 2) as usize) * layer,
+    }
+}
+
+fn part_length(row: Row, number: u32) -> usize
+    requires { ⌜ Ready (ruledRow row) ⌝ }
+    ensures { λ r. ⌜ r ≡ partLength (ruledRow row) number ⌝ }
+{
+    let n = row.n;
+    match number {
+        0 => n,
+        1 => (row.k as usize) * (n + (row.a as usize) * n),
+        _ => (2 * n + 3) * n + (row.hp as usize) * n,
+    }
+}
+
+// The tests under a known set.
+fn part_answer_under(row: Row, seal: &[u8], number: u32) -> Answer
+    requires { ⌜ Ready (ruledRow row) ⌝ }
+    ensures { λ r. ⌜ numberOf r ≡ partAnswer (some (ruledRow row)) (now (seal .entry)) number ⌝ }
+{
+    first_failed(true, true, seal.len() == row.seal, number <= row.d + 1)
+}
+
+// The part under a known set.
+fn part_under(row: Row, seal: &[u8], number: u32) -> &[u8]
+    requires { ⌜ Ready (ruledRow row) ⌝ }
+    ensures { λ r. ⌜ now r ≡ partGiven (some (ruledRow row)) (now (seal .entry)) number ⌝ }
+{
+    if !done(part_answer_under(row, seal, number)) {
+        return &seal[0..0];
+    }
+    let start = part_start(row, number);
+    let end = start + part_length(row, number);
+    &seal[start..end]
+}
+
+// The answer of part reading.
+pub fn part_answer(set: u32, seal: &[u8], number: u32) -> Answer
+    ensures { λ r. ⌜ numberOf r ≡ partAnswer (rowOf set) (now (seal .entry)) number ⌝ }
+{
+    let found = find_row(set);
+    match found {
+        Found::Is(row) => part_answer_under(row, seal, number),
+        Found::Unknown => Answer::UnknownSet,
+    }
+}
+
+// The part of a seal; empty with every refusal.
+pub fn part(set: u32, seal: &[u8], number: u32) -> &[u8]
+    ensures { λ r. ⌜ now r ≡ partGiven (rowOf set) (now (seal .entry)) number ⌝ }
+{
+    let found = find_row(set);
+    match found {
+        Found::Is(row) => part_under(row, seal, number),
+        Found::Unknown => &seal[0..0],
+    }
+}
