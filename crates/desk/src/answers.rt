@@ -1,7 +1,6 @@
 // The answers, and the tests that come before any work.
 ghost use mathlib.Core.Path.{_≡_};
 ghost use mathlib.Core.Bool.{_&&_, _||_};
-ghost use lib.Dec.{eqb};
 ghost use Rattle.desk.specs.Answers.{number, smallest, tested, messageFits, same};
 
 // The paper's answers 0 to 6.
@@ -15,18 +14,18 @@ pub enum Answer {
     NoPart,
 }
 
-// Whether the answer is 0.
-pub fn done(answer: Answer) -> bool
-    ensures { λ r. ⌜ r ≡ eqb (number answer) 0 ⌝ }
+// The paper's number of an answer.
+pub fn number_of(answer: Answer) -> u32
+    ensures { λ r. ⌜ r ≡ number answer ⌝ }
 {
     match answer {
-        Answer::Done => true,
-        Answer::UnknownSet => false,
-        Answer::WrongLength => false,
-        Answer::LongMessage => false,
-        Answer::WrongRoom => false,
-        Answer::OtherRoot => false,
-        Answer::NoPart => false,
+        Answer::Done => 0,
+        Answer::UnknownSet => 1,
+        Answer::WrongLength => 2,
+        Answer::LongMessage => 3,
+        Answer::WrongRoom => 4,
+        Answer::OtherRoot => 5,
+        Answer::NoPart => 6,
     }
 }
 

@@ -9,9 +9,9 @@ ghost use Rattle.points.specs.Ready.{Ready};
 ghost use Rattle.desk.specs.Answers.{number, smallest, tested, messageFits};
 ghost use Rattle.desk.specs.Checks.{Checked};
 use crate::answers::Answer;
-use crate::answers::done;
 use crate::answers::first_failed;
 use crate::answers::message_fits;
+use crate::answers::number_of;
 use crate::answers::same;
 use calls::rows::Found;
 use calls::rows::Row;
@@ -45,7 +45,7 @@ fn check_under(row: Row, public: &[u8], message: &[u8], seal: &[u8]) -> Verdict
 {
     let n = row.n;
     let answer = check_answer(row, public.len(), message.len(), seal.len());
-    if !done(answer) {
+    if number_of(answer) != 0 {
         return Verdict {
             answer: answer,
             calls: 0,

@@ -6,8 +6,8 @@ ghost use Rattle.calls.specs.Rows.{ruledRow};
 ghost use Rattle.points.specs.Ready.{Ready};
 ghost use Rattle.desk.specs.Digits.{DigitsRead};
 use crate::answers::Answer;
-use crate::answers::done;
 use crate::answers::first_failed;
+use crate::answers::number_of;
 use calls::rows::Found;
 use calls::rows::Row;
 use calls::rows::find_row;
@@ -21,7 +21,7 @@ fn chain_digits_under(row: Row, value: &[u8], digits: &mut [u32]) -> Answer
     let n = row.n;
     let room = digits.len() == 2 * n + 3;
     let answer = first_failed(value.len() == n, true, room, true);
-    if done(answer) {
+    if number_of(answer) == 0 {
         digits::chain_digits(value, digits);
         return Answer::Done;
     }

@@ -12,8 +12,8 @@ ghost use Rattle.points.specs.Ready.{Ready};
 ghost use Rattle.desk.specs.Answers.{number as numberOf};
 ghost use Rattle.desk.specs.Parts.{partAnswer, partGiven};
 use crate::answers::Answer;
-use crate::answers::done;
 use crate::answers::first_failed;
+use crate::answers::number_of;
 use calls::rows::Found;
 use calls::rows::Row;
 use calls::rows::find_row;
@@ -58,7 +58,8 @@ fn part_under(row: Row, seal: &[u8], number: u32) -> &[u8]
     requires { ⌜ Ready (ruledRow row) ⌝ }
     ensures { λ r. ⌜ now r ≡ partGiven (some (ruledRow row)) (now (seal .entry)) number ⌝ }
 {
-    if !done(part_answer_under(row, seal, number)) {
+    let answer = part_answer_under(row, seal, number);
+    if number_of(answer) != 0 {
         return &seal[0..0];
     }
     let start = part_start(row, number);
