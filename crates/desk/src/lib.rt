@@ -2,4 +2,6 @@
 pub mod answers;
 pub mod checking;
 pub mod digit_reading;
+pub mod making;
 pub mod part_reading;
+pub mod sealing;

@@ -1,0 +1,148 @@
+-- Keys and seals on plain values: what was written piece by piece is the rules' key, and the rules' seal.
+-- Assumes nothing.
+use mathlib.Core.Path.{_≡_, refl, sym, ap, ap₂, _∙_}
+use mathlib.Core.List.{[], _∷_, _++_, append-assoc}
+use Prim.Native.Nat.{ℕ, _+_, _-_, _*_, _≤_}
+use native.Mathlib.Nat.{sub-zero}
+use native.Mathlib.Omega.{arith}
+use borrow.Rule.Slice.PartMut.{putMid}
+use lib.ListN.{length, take, drop, length-drop}
+use lib.Seq.{take-all}
+use Rattle.lists.proofs.Filling.{rest-read, front-written}
+use Rattle.lists.proofs.Parts.{nil-of-length}
+use Rattle.parts.specs.Put.{Put}
+use Rattle.rules.specs.Places.{Bytes}
+use Rattle.rules.specs.Calls.{Family, under}
+use Rattle.rules.specs.Trees.{node}
+use Rattle.rules.specs.Layers.{layerTree, ownRoot, layersSeal}
+use Rattle.rules.specs.Forest.{forestSeal, forestRoot}
+use Rattle.rules.specs.Digest.{Row, Pointed, pointed}
+use Rattle.rules.specs.Keys.{piece, keyRoot, publicKey, secretKey}
+use Rattle.rules.specs.Seal.{frame, mixedIn, randomizerOf, digestOf, written, sealWith, sealOf}
+use Rattle.points.specs.Ready.{Ready}
+use Rattle.points.proofs.SizeLaws.{forestSize, layerSize, seal-size, first-piece, third-piece, last-piece}
+use Rattle.writes.proofs.WriteLaws.{front-long, both-written}
+
+-- ---- Keys
+
+-- Two pieces put one after the other that fill a string are the string.
+pub pair-written : {out mid last a b : Bytes} {i j : ℕ} → Put out 0 a mid i → Put mid i b last j
+    → length last ≡ length a + length b → last ≡ a ++ b
+pair-written {last = last} {b = b} {j = j} p q long =
+    let full : length last ≤ j = omega (arith, p .ends, q .ends, long) in
+    sym (take-all j last full) ∙ q .front ∙ ap (λ (x : Bytes). x ++ b) (p .front)
+
+module _ (r : Row) (f : Family (r .n) (r .m)) (sk pk : Bytes) where
+  -- The topmost tree's node at its full height is the key's root.
+  pub root-made : {v : Bytes} → v ≡ node (under f pk) (layerTree (under f pk) sk (r .d - 1) 0) (r .h') 0 .result
+      → v ≡ keyRoot r f sk pk .result
+  unfolding keyRoot ownRoot
+  root-made e = e
+
+  module _ {v : Bytes} (e : v ≡ keyRoot r f sk pk .result) where
+    pub public-made : {out : Bytes} → out ≡ pk ++ v → out ≡ publicKey r f sk pk
+    unfolding publicKey
+    public-made g = g ∙ ap (λ (x : Bytes). pk ++ x) e
+
+    -- The secret key, from its two seeds over the first m bytes and the public key over the rest.
+    pub secret-made : (m : ℕ) (prf out : Bytes) {xs ys : Bytes} → length xs ≡ m → xs ≡ sk ++ prf → ys ≡ pk ++ v
+        → putMid m (length (putMid 0 (m - 0) out xs) - m) (putMid 0 (m - 0) out xs) ys ≡ secretKey r f sk prf pk
+    unfolding secretKey
+    secret-made m prf out {xs} {ys} long g h =
+        both-written m out xs ys long ∙ ap₂ _++_ g (h ∙ ap (λ (x : Bytes). pk ++ x) e)
+        ∙ append-assoc sk prf (pk ++ keyRoot r f sk pk .result)
+
+-- ---- The randomizer
+
+-- The mixed-in bytes, where there is no randomizer input and where there is one.
+pub mixed-none : (random pk : Bytes) {x : Bytes} → length random ≡ 0 → x ≡ pk → x ≡ mixedIn random pk
+unfolding mixedIn
+mixed-none random pk e g = g ∙ ap (λ (y : Bytes). mixedIn y pk) (sym (nil-of-length random e))
+
+pub mixed-some : (random pk : Bytes) → (length random ≡ 0 → ⊥) → random ≡ mixedIn random pk
+unfolding mixedIn
+mixed-some [] pk h = absurd (h refl)
+mixed-some (x ∷ xs) pk h = refl
+
+-- The randomizer of the framed message.
+pub randomizer-made : (r : Row) (f : Family (r .n) (r .m)) (prf mixed message : Bytes) {R k x : Bytes} → k ≡ prf
+    → x ≡ mixed → R ≡ f .PRFmsg k x ((0 ∷ 0 ∷ []) ++ message)
+    → R ≡ randomizerOf r f prf mixed (frame message) .result
+unfolding randomizerOf frame
+randomizer-made r f prf mixed message e g h = h ∙ ap₂ (λ a b. f .PRFmsg a b (0 ∷ 0 ∷ message)) e g
+
+-- ---- What follows the randomizer
+
+-- The front that was lent and written is what it came back as.
+front-is : (m : ℕ) (out xs : Bytes) → length xs ≡ m → take (m - 0) (putMid 0 (m - 0) out xs) ≡ xs
+front-is m out xs long =
+    ap (λ (k : ℕ). take k (putMid 0 (m - 0) out xs)) (sub-zero m) ∙ front-written m out xs long
+
+-- The rest that is lent after the first m bytes is that much shorter.
+pub rest-long : (m : ℕ) (l : Bytes) → m ≤ length l → length (take (length l - m) (drop m l)) + m ≡ length l
+rest-long m l h = ap (λ (x : Bytes). length x + m) (rest-read m l) ∙ omega (arith, length-drop m l)
+
+module _ (r : Row) (ready : Ready r) (out : Bytes) (long : length out + r .n ≡ r .sealBytes) where
+  -- The forest's part of it, and the layers' parts.
+  pub forest-long : length (take (forestSize r - 0) out) ≡ forestSize r
+  forest-long = front-long (forestSize r) out (omega (arith, long, seal-size r ready))
+
+  pub layers-long : length (take (length out - forestSize r) (drop (forestSize r) out)) ≡ r .d * layerSize r
+  layers-long =
+      let rest = rest-long (forestSize r) out (omega (arith, long, seal-size r ready)) in
+      omega (arith, rest, long, seal-size r ready)
+
+-- The forest's part over the first m bytes, and over the rest the layers' parts for the value that it leads to.
+module _ (r : Row) (f : Family (r .n) (r .m)) (sk pk : Bytes) (at : Pointed) where
+  pub written-made : (m : ℕ) (out : Bytes) {xs ys v : Bytes} → length xs ≡ m
+      → xs ≡ forestSeal (under f pk) (at .tree) (at .leaf) (r .a) sk 0 (at .indices) .result
+      → v ≡ forestRoot (under f pk) (at .tree) (at .leaf) (r .a) (at .indices)
+      (take (m - 0) (putMid 0 (m - 0) out xs)) .result
+      → ys ≡ layersSeal (under f pk) (r .h') sk (r .d - 1) 0 (at .tree) (at .leaf) v .result
+      → putMid m (length (putMid 0 (m - 0) out xs) - m) (putMid 0 (m - 0) out xs) ys ≡ written r f sk pk at .result
+  unfolding written
+  written-made m out {xs} {ys} {v} long e g h =
+      let low : Bytes → Bytes = λ x. forestRoot (under f pk) (at .tree) (at .leaf) (r .a) (at .indices) x .result in
+      let up : Bytes → Bytes =
+      λ x. layersSeal (under f pk) (r .h') sk (r .d - 1) 0 (at .tree) (at .leaf) x .result in
+      both-written m out xs ys long
+      ∙ ap₂ _++_ e (h ∙ ap up (g ∙ ap low (front-is m out xs long ∙ e)))
+
+-- ---- The whole seal, on a secret key as bytes and a message
+
+module _ (r : Row) (f : Family (r .n) (r .m)) (secret random message : Bytes) (long : length secret ≡ 4 * r .n) where
+  abbrev sk : Bytes
+  sk = take (r .n - 0) secret
+
+  abbrev pk : Bytes
+  pk = take (3 * r .n - 2 * r .n) (drop (2 * r .n) secret)
+
+  abbrev root : Bytes
+  root = take (length secret - 3 * r .n) (drop (3 * r .n) secret)
+
+  -- What follows the randomizer, by the pieces of the key as code lends them.
+  rest-is : (R : Bytes) {p : Pointed} {ys : Bytes}
+      → p ≡ pointed r (digestOf r f R pk root (frame message) .result) → ys ≡ written r f sk pk p .result
+      → R ++ ys ≡ sealWith r f R (piece (r .n) 0 secret) (piece (r .n) 2 secret) (piece (r .n) 3 secret)
+      (frame message) .result
+  unfolding sealWith
+  rest-is R e g =
+      let at : (k s : Bytes) → Pointed = λ k s. pointed r (digestOf r f R k s (frame message) .result) in
+      let last = last-piece (r .n) secret 3 (omega (arith, long)) in
+      let third = third-piece (r .n) secret in
+      ap (λ (x : Bytes). R ++ x)
+      (g ∙ ap₂ (λ s q. written r f s pk q .result) (first-piece (r .n) secret) (e ∙ ap (at pk) last)
+      ∙ ap (λ k. written r f (piece (r .n) 0 secret) k (at k (piece (r .n) 3 secret)) .result) third)
+
+  pub seal-made : (out : Bytes) {R ys : Bytes} {p : Pointed} → length R ≡ r .n
+      → R ≡ randomizerOf r f (piece (r .n) 1 secret) (mixedIn random (piece (r .n) 2 secret)) (frame message) .result
+      → p ≡ pointed r (digestOf r f (take (r .n - 0) (putMid 0 (r .n - 0) out R)) pk root (frame message) .result)
+      → ys ≡ written r f sk pk p .result
+      → putMid (r .n) (length (putMid 0 (r .n - 0) out R) - r .n) (putMid 0 (r .n - 0) out R) ys
+      ≡ sealOf r f secret random (frame message) .result
+  unfolding sealOf
+  seal-made out {R} {ys} lr e g h =
+      let at : Bytes → Pointed = λ x. pointed r (digestOf r f x pk root (frame message) .result) in
+      both-written (r .n) out R ys lr ∙ rest-is R (g ∙ ap at (front-is (r .n) out R lr)) h
+      ∙ ap (λ x. sealWith r f x (piece (r .n) 0 secret) (piece (r .n) 2 secret) (piece (r .n) 3 secret)
+      (frame message) .result) e
