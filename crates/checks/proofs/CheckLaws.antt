@@ -19,7 +19,7 @@ use Rattle.rules.specs.Check.{layersPart, rootAt, checkedRoot}
 use Rattle.rules.specs.Counts.{is, count}
 use Rattle.rules.proofs.CountLaws.{count-append}
 use Rattle.points.specs.Ready.{Ready}
-use Rattle.points.proofs.SizeLaws.{forestSize, layerSize, seal-size, layers-start, first-piece, last-piece}
+use Rattle.points.proofs.SizeLaws.{forestSize, layerSize, seal-size, layers-start, first-piece, rest-piece}
 use Rattle.walks.proofs.WalkLaws.{forest-calls}
 use Rattle.walks.proofs.UpLaws.{up-calls, up-most}
 
@@ -99,11 +99,9 @@ module _ (r : Row) (f : Family (r .n) (r .m)) (public message seal : Bytes) (lon
       (frame message) .result)
   unfolding part partStart partLength
   place-is =
-      let root : take (length public - r .n) (drop (r .n) public) ≡ piece (r .n) 1 public =
-      ap (λ k. take (length public - k) (drop k public)) (omega arith) ∙ last-piece (r .n) public 1 (omega (arith, long)) in
       e ∙ ap₂ (λ R k. pointed r (digestOf r f R k (take (length public - r .n) (drop (r .n) public)) (frame message)
       .result)) (ap (λ k. take k seal) (sub-zero (r .n))) (first-piece (r .n) public)
-      ∙ ap (λ x. pointed r (digestOf r f (part r 0 seal) (piece (r .n) 0 public) x (frame message) .result)) root
+      ∙ ap (λ x. pointed r (digestOf r f (part r 0 seal) (piece (r .n) 0 public) x (frame message) .result)) (rest-piece (r .n) public long)
 
   pub checked-made : {root : Bytes} → root ≡ rootAt r f (take (r .n - 0) public) seal p .result
       → root ≡ checkedRoot r f public (frame message) seal .result

@@ -1,7 +1,7 @@
 -- The laws of the desk's tests on plain values: the first test that fails decides, and only where all pass is work done.
 -- Assumes nothing.
 use mathlib.Core.Path.{_≡_, refl, sym, ap, _∙_}
-use mathlib.Core.Bool.{Bool, true, false, not, cond, _&&_}
+use mathlib.Core.Bool.{Bool, true, false, not, cond, _&&_, _||_}
 use mathlib.Core.List.{List, [], _∷_}
 use mathlib.Core.Option.{Option, some, none}
 use Prim.Native.Nat.{ℕ, zero, suc, _+_, _≤_, _<_}
@@ -12,6 +12,10 @@ use lib.ListN.{length, drop, getD, drop-of-length-le}
 use lib.Seq.{drop-cons}
 use native.Mathlib.Numerals.{add-one}
 use Rattle.rules.specs.Digest.{Row}
+use Rattle.calls.specs.Rows.{ruledRow, ruled}
+use Rattle.calls.specs.declared.rows.Row as code
+use Rattle.calls.specs.declared.rows.Found.{Found}
+use Rattle.calls.specs.declared.rows.Found.the-variants.{Is, Unknown}
 use Rattle.rules.specs.Places.{Bytes}
 use Rattle.desk.specs.Answers.{Refusals, smallest, tested, settled, same}
 
@@ -40,6 +44,11 @@ module _ (lengths message room part : Bool) where
   pub passes : not lengths ≡ false → not message ≡ false → not room ≡ false → not part ≡ false → 0 ≡ given
   unfolding smallest
   passes e f g h = rw (e, f, g, h)
+
+-- Tests that were worked out one by one.
+pub by-tests : (L M R P : Bool) {l m r : Bool} {x : ℕ} → l ≡ L → m ≡ M → r ≡ R → x ≡ smallest (tested l m r P)
+    → x ≡ smallest (tested L M R P)
+by-tests L M R P e f g h = rw (← e, ← f, ← g) h
 
 -- Where the answer is 0 every test has passed.
 pub record Passed (lengths message room part : Bool) : Type 0 where
@@ -105,3 +114,46 @@ same-turn a b i h k = rw (drop-next a i h, drop-next b i k)
 pub same-end : (a b : Bytes) (i : ℕ) → length a ≤ i → length b ≤ i → same (drop i a) (drop i b) ≡ true
 unfolding same
 same-end a b i h k = rw (drop-of-length-le a h, drop-of-length-le b k)
+
+-- ---- The row of a set
+
+pub row-found : {found : Found} {row : code.Row} {target : Option Row} → found ≡ Is row → ruled found ≡ target
+    → target ≡ some (ruledRow row)
+row-found e f = sym f ∙ ap ruled e
+
+pub row-missing : {found : Found} {target : Option Row} → found ≡ Unknown → ruled found ≡ target → target ≡ none
+row-missing e f = sym f ∙ ap ruled e
+
+-- ---- The tests of a check, before its walk and after it
+
+abbrev rooted : (lengths message room root : Bool) → Refusals
+rooted a b c s = record {
+  unknown-set = false;
+  wrong-length = not a;
+  long-message = not b;
+  wrong-room = not c;
+  other-root = not s;
+  no-part = false;
+}
+
+abbrev callsAt : (answer n : ℕ) → ℕ
+callsAt x n = cond (eqb x 0 || eqb x 5) n 0
+
+-- Refused before the walk, whatever the walk would have shown.
+pub refused-walk : (a b c s : Bool) (n : ℕ) → (smallest (tested a b c true) ≡ 0 → ⊥)
+    → (smallest (tested a b c true) ≡ smallest (rooted a b c s)) × (0 ≡ callsAt (smallest (rooted a b c s)) n)
+unfolding smallest
+refused-walk false b c s n h = (refl, refl)
+refused-walk true false c s n h = (refl, refl)
+refused-walk true true false s n h = (refl, refl)
+refused-walk true true true s n h = absurd (h refl)
+
+-- After the walk the root decides.
+pub walked : (a b c s : Bool) (n : ℕ) → smallest (tested a b c true) ≡ 0
+    → (cond s 0 5 ≡ smallest (rooted a b c s)) × (n ≡ callsAt (smallest (rooted a b c s)) n)
+unfolding smallest
+walked false b c s n h = absurd (suc-ne-zero 1 h)
+walked true false c s n h = absurd (suc-ne-zero 2 h)
+walked true true false s n h = absurd (suc-ne-zero 3 h)
+walked true true true true n h = (refl, refl)
+walked true true true false n h = (refl, refl)

@@ -6,6 +6,8 @@ ghost use Prim.Native.Nat.{_+_, _≤_};
 ghost use lib.Dec.{eqb, leb};
 ghost use lib.ListN.{length};
 ghost use Rattle.rules.specs.Sets.{rowOf};
+ghost use Rattle.rules.specs.Layers.{layerBytes};
+ghost use Rattle.rules.specs.Forest.{forestBytes};
 ghost use Rattle.rules.specs.Seal.{partStart, partLength};
 ghost use Rattle.calls.specs.Rows.{ruledRow};
 ghost use Rattle.points.specs.Ready.{Ready};
@@ -18,14 +20,31 @@ use calls::rows::Found;
 use calls::rows::Row;
 use calls::rows::find_row;
 
+// The bytes of the forest's part, and of a layer's.
+fn forest_size(row: Row) -> usize
+    requires { ⌜ Ready (ruledRow row) ⌝ }
+    ensures { λ r. ⌜ r ≡ forestBytes (row .n) (row .a) (row .k) ⌝ }
+{
+    let n = row.n;
+    (row.k as usize) * (n + (row.a as usize) * n)
+}
+
+fn layer_size(row: Row) -> usize
+    requires { ⌜ Ready (ruledRow row) ⌝ }
+    ensures { λ r. ⌜ r ≡ layerBytes (row .n) (row .hp) ⌝ }
+{
+    let n = row.n;
+    (2 * n + 3) * n + (row.hp as usize) * n
+}
+
 // Where a part starts, and how long it is.
 fn part_start(row: Row, number: u32) -> usize
     requires { ⌜ Ready (ruledRow row) × (number ≤ row .d + 1) ⌝ }
     ensures { λ r. ⌜ r ≡ partStart (ruledRow row) number ⌝ }
 {
     let n = row.n;
-    let layer = (2 * n + 3) * n + (row.hp as usize) * n;
-    let forest = (row.k as usize) * (n + (row.a as usize) * n);
+    let forest = forest_size(row);
+    let layer = layer_size(row);
     match number {
         0 => 0,
         1 => n,
@@ -38,10 +57,12 @@ fn part_length(row: Row, number: u32) -> usize
     ensures { λ r. ⌜ r ≡ partLength (ruledRow row) number ⌝ }
 {
     let n = row.n;
+    let forest = forest_size(row);
+    let layer = layer_size(row);
     match number {
         0 => n,
-        1 => (row.k as usize) * (n + (row.a as usize) * n),
-        _ => (2 * n + 3) * n + (row.hp as usize) * n,
+        1 => forest,
+        _ => layer,
     }
 }
 

@@ -41,6 +41,13 @@ module _ (r : Row) (ready : Ready r) where
   pub layer-leaves : 2 ^ r .h' ≤ 2 ^ 16
   layer-leaves = pow-mono (ready .fit .heights)
 
+  -- A layer's part is small.
+  pub layer-room : layerSize r ≤ 2656
+  layer-room =
+      let many : chains (r .n) ≤ 67 = omega (arith, ready .fit .values) in
+      let chained : chains (r .n) * r .n ≤ 67 * 32 = mul-le-mul many (ready .fit .values) in
+      omega (arith, mul-le-mul (ready .fit .heights) (ready .fit .values))
+
   pub seal-size : r .sealBytes ≡ r .n + forestSize r + r .d * layerSize r
   unfolding forestBytes treeBytes layerBytes chainBytes
   seal-size = seal-parts r (ready .legal)
@@ -69,3 +76,8 @@ module _ (n : ℕ) (x : Bytes) where
   last-piece i long =
       let left : length x - i * n ≡ n = omega (arith, long) in
       ap (λ (k : ℕ). take k (drop (i * n) x)) left
+
+  -- The second of two pieces is the rest.
+  pub rest-piece : length x ≡ 2 * n → take (length x - n) (drop n x) ≡ piece n 1 x
+  rest-piece long =
+      ap (λ (k : ℕ). take (length x - k) (drop k x)) (sym (one-mul n)) ∙ last-piece 1 (omega (arith, long))

@@ -1,36 +1,28 @@
+-- `check` goes by the row of its set, and without one makes no call.
+-- Assumes nothing.
+use Rattle.points.proofs.ReadyLaws.{rowOf-ready}
+use Rattle.desk.proofs.DeskLaws.{row-found, row-missing}
+use Rattle.desk.proofs.OperationLaws.{check-by, check-unknown}
 use borrow.Author.Needs.{needs}
 use Rattle.desk.proofs.checking.check.Statement.{statement}
 use Rattle.desk.proofs.checking.check.Tie as tie
-use Rattle.desk.proofs.checking.check.Reads as reads
-use Rattle.desk.proofs.checking.check.Lts as lts
-use Rattle.calls.proofs.rows.find_row.Reads as find-row-reads
-use Rattle.desk.proofs.checking.check_under.Reads as check-under-reads
 
--- src/checking.rt:73:9
-find-row-requires : tie.Need-find-row-requires
-find-row-requires c κs = search needs
-
--- src/checking.rt:75:19
-enum-known-found : tie.Need-enum-known-found
-enum-known-found c = search needs
-
--- src/checking.rt:75:27
 check-under-requires : tie.Need-check-under-requires
-check-under-requires c κs = search needs
+check-under-requires c κs =
+    rowOf-ready (c .before .before .before .before .before .before .before .args .set) _
+    (row-found (c .before .found .given .1) (c .before .before .before .find-row .ensures))
 
--- src/checking.rt:77:21
-enum-told : tie.Need-enum-told
-enum-told c = search needs
-
--- src/checking.rt:70:1
 returns : tie.Need-returns
-returns c = search needs
+returns c =
+    let a = c .before .before .before .before .before .before .before .before .args in
+    check-by (row-found (c .before .before .found .given .1) (c .before .before .before .before .find-row .ensures))
+    (c .check-under .ensures)
 
--- src/checking.rt:70:1
 returns-2 : tie.Need-returns-2
-returns-2 c = search needs
+returns-2 c =
+    let a = c .before .before .before .before .before .before .args in
+    check-by (row-missing (c .enum-told .given .1) (c .before .before .find-row .ensures))
+    (check-unknown (a .public .now) (a .message .now) (a .seal .now))
 
 pub check-spec : {M : Type 1} → statement M
-check-spec =
-    tie.close
-    (tie.spec find-row-requires enum-known-found check-under-requires enum-told returns returns-2)
+check-spec = tie.close (tie.spec (λ c κs. search needs) (λ c. search needs) check-under-requires (λ c. search needs) returns returns-2)

@@ -1,22 +1,19 @@
+-- `check_answer` tests the key, then the message, then the seal.
+-- Assumes nothing.
+use mathlib.Core.Path.{refl}
+use mathlib.Core.Bool.{true}
+use lib.Dec.{eqb}
+use Rattle.desk.specs.Answers.{messageFits}
+use Rattle.desk.proofs.DeskLaws.{by-tests}
 use borrow.Author.Needs.{needs}
 use Rattle.desk.proofs.checking.check_answer.Statement.{statement}
 use Rattle.desk.proofs.checking.check_answer.Tie as tie
-use Rattle.desk.proofs.checking.check_answer.Reads as reads
-use Rattle.desk.proofs.checking.check_answer.Lts as lts
-use Rattle.desk.proofs.answers.first_failed.Reads as first-failed-reads
-use Rattle.desk.proofs.answers.message_fits.Reads as message-fits-reads
 
--- src/checking.rt:34:9
-message-fits-requires : tie.Need-message-fits-requires
-message-fits-requires c κs = search needs
-
--- src/checking.rt:32:5
-first-failed-requires : tie.Need-first-failed-requires
-first-failed-requires c κs = search needs
-
--- src/checking.rt:28:1
 returns : tie.Need-returns
-returns c = search needs
+returns c =
+    let a = c .before .before .before .before .args in
+    by-tests (eqb (a .public) (a .row .public)) (messageFits (a .message)) (eqb (a .seal) (a .row .seal)) true refl
+    (c .before .before .message-fits .ensures) refl (c .first-failed .ensures)
 
 pub check-answer-spec : {M : Type 1} → statement M
-check-answer-spec = tie.close (tie.spec message-fits-requires first-failed-requires returns)
+check-answer-spec = tie.close (tie.spec (λ c κs. search needs) (λ c κs. search needs) returns)

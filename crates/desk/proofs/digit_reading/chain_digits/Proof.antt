@@ -1,47 +1,28 @@
+-- `chain_digits` goes by the row of its set, and without one writes nothing.
+-- Assumes nothing.
+use Rattle.points.proofs.ReadyLaws.{rowOf-ready}
+use Rattle.desk.proofs.DeskLaws.{row-found, row-missing}
+use Rattle.desk.proofs.OperationLaws.{digits-by, digits-unknown}
 use borrow.Author.Needs.{needs}
 use Rattle.desk.proofs.digit_reading.chain_digits.Statement.{statement}
 use Rattle.desk.proofs.digit_reading.chain_digits.Tie as tie
-use Rattle.desk.proofs.digit_reading.chain_digits.Reads as reads
-use Rattle.desk.proofs.digit_reading.chain_digits.Lts as lts
-use Rattle.calls.proofs.rows.find_row.Reads as find-row-reads
-use Rattle.desk.proofs.digit_reading.chain_digits_under.Reads as chain-digits-under-reads
 
--- src/digit_reading.rt:35:9
-find-row-requires : tie.Need-find-row-requires
-find-row-requires c κs = search needs
-
--- src/digit_reading.rt:37:19
-enum-known-found : tie.Need-enum-known-found
-enum-known-found c = search needs
-
--- src/digit_reading.rt:37:27
 chain-digits-under-requires : tie.Need-chain-digits-under-requires
-chain-digits-under-requires c κs = search needs
+chain-digits-under-requires c κs =
+    rowOf-ready (c .before .before .before .before .before .before .before .args .set) _
+    (row-found (c .before .before .found .given .1) (c .before .before .before .before .find-row .ensures))
 
--- src/digit_reading.rt:38:27
-enum-told : tie.Need-enum-told
-enum-told c = search needs
-
--- src/digit_reading.rt:32:1
-same-length : tie.Need-same-length
-same-length c = search needs
-
--- src/digit_reading.rt:32:1
 returns : tie.Need-returns
-returns c = search needs
+returns c =
+    let a = c .before .before .before .before .before .before .before .before .before .before .args in
+    digits-by (row-found (c .before .before .before .before .before .found .given .1) (c .before .before .before .before .before .before .before .find-row .ensures))
+    (c .before .before .chain-digits-under .ensures)
 
--- src/digit_reading.rt:32:1
 returns-2 : tie.Need-returns-2
-returns-2 c = search needs
+returns-2 c =
+    let a = c .before .before .before .before .before .args in
+    digits-by (row-missing (c .enum-told .given .1) (c .before .before .find-row .ensures))
+    (digits-unknown (a .value .now) (a .digits .now))
 
 pub chain-digits-spec : {M : Type 1} → statement M
-chain-digits-spec =
-    tie.close
-    (tie.spec
-    find-row-requires
-    enum-known-found
-    chain-digits-under-requires
-    enum-told
-    same-length
-    returns
-    returns-2)
+chain-digits-spec = tie.close (tie.spec (λ c κs. search needs) (λ c. search needs) chain-digits-under-requires (λ c. search needs) (λ c. search needs) returns returns-2)

@@ -1,80 +1,28 @@
+-- `part_length` is the definition in each of its three cases.
+-- Assumes nothing.
+use mathlib.Core.Path.{_≡_, sym, ap, _∙_}
+use Rattle.calls.specs.Rows.{ruledRow}
+use Rattle.rules.specs.Seal.{partLength}
+use Rattle.desk.proofs.OperationLaws.{later-length}
 use borrow.Author.Needs.{needs}
 use Rattle.desk.proofs.part_reading.part_length.Statement.{statement}
 use Rattle.desk.proofs.part_reading.part_length.Tie as tie
-use Rattle.desk.proofs.part_reading.part_length.Reads as reads
-use Rattle.desk.proofs.part_reading.part_length.Lts as lts
 
--- src/part_reading.rt:43:15
-cast-result : tie.Need-cast-result
-cast-result c = search needs
-
--- src/part_reading.rt:43:39
-cast-result-2 : tie.Need-cast-result-2
-cast-result-2 c = search needs
-
--- src/part_reading.rt:43:38
-mul-result : tie.Need-mul-result
-mul-result c = search needs
-
--- src/part_reading.rt:43:34
-add-result : tie.Need-add-result
-add-result c = search needs
-
--- src/part_reading.rt:43:14
-mul-result-2 : tie.Need-mul-result-2
-mul-result-2 c = search needs
-
--- src/part_reading.rt:44:15
-mul-result-3 : tie.Need-mul-result-3
-mul-result-3 c = search needs
-
--- src/part_reading.rt:44:15
-add-result-2 : tie.Need-add-result-2
-add-result-2 c = search needs
-
--- src/part_reading.rt:44:14
-mul-result-4 : tie.Need-mul-result-4
-mul-result-4 c = search needs
-
--- src/part_reading.rt:44:33
-cast-result-3 : tie.Need-cast-result-3
-cast-result-3 c = search needs
-
--- src/part_reading.rt:44:32
-mul-result-5 : tie.Need-mul-result-5
-mul-result-5 c = search needs
-
--- src/part_reading.rt:44:14
-add-result-3 : tie.Need-add-result-3
-add-result-3 c = search needs
-
--- src/part_reading.rt:36:1
 returns : tie.Need-returns
-returns c = search needs
+unfolding partLength
+returns c = ap (partLength (ruledRow (c .before .before .before .args .row))) (sym (c .match .keys1))
 
--- src/part_reading.rt:36:1
 returns-2 : tie.Need-returns-2
-returns-2 c = search needs
+unfolding partLength
+returns-2 c =
+    c .before .before .forest-size .ensures
+    ∙ ap (partLength (ruledRow (c .before .before .before .args .row))) (sym (c .match .keys2))
 
--- src/part_reading.rt:36:1
 returns-3 : tie.Need-returns-3
-returns-3 c = search needs
+returns-3 c =
+    let a = c .before .before .before .args in
+    later-length (ruledRow (a .row)) (a .number) (c .match .rest .0 .1) (c .match .rest .1)
+    (c .before .layer-size .ensures)
 
 pub part-length-spec : {M : Type 1} → statement M
-part-length-spec =
-    tie.close
-    (tie.spec
-    cast-result
-    cast-result-2
-    mul-result
-    add-result
-    mul-result-2
-    mul-result-3
-    add-result-2
-    mul-result-4
-    cast-result-3
-    mul-result-5
-    add-result-3
-    returns
-    returns-2
-    returns-3)
+part-length-spec = tie.close (tie.spec (λ c κs. search needs) (λ c κs. search needs) returns returns-2 returns-3)

@@ -1,105 +1,63 @@
+-- `part_start` is the definition in each of its three cases, and fits a word.
+-- Assumes nothing.
+use mathlib.Core.Path.{_≡_, sym, ap}
+use Prim.Native.Nat.{_≤_}
+use native.Mathlib.Omega.{arith}
+use Rattle.calls.specs.Rows.{ruledRow}
+use Rattle.rules.specs.Layers.{chainBytes, layerBytes}
+use Rattle.rules.specs.Forest.{treeBytes, forestBytes}
+use Rattle.rules.specs.Seal.{partStart}
+use Rattle.points.proofs.SizeLaws.{forest-room, layer-room}
+use Rattle.desk.proofs.OperationLaws.{later-start, start-room}
 use borrow.Author.Needs.{needs}
 use Rattle.desk.proofs.part_reading.part_start.Statement.{statement}
 use Rattle.desk.proofs.part_reading.part_start.Tie as tie
-use Rattle.desk.proofs.part_reading.part_start.Reads as reads
-use Rattle.desk.proofs.part_reading.part_start.Lts as lts
 
--- src/part_reading.rt:27:18
-mul-layer : tie.Need-mul-layer
-mul-layer c = search needs
+-- The forest's part and a layer's are small.
+forest-small : (c : tie.After-layer-size) → c .before .forest-size .result ≤ 19040
+unfolding forestBytes treeBytes
+forest-small c =
+    let s = c .before .before in
+    rw (c .before .forest-size .ensures) (forest-room (ruledRow (s .args .row)) (s .pre .0))
 
--- src/part_reading.rt:27:18
-add-layer : tie.Need-add-layer
-add-layer c = search needs
+layer-small : (c : tie.After-layer-size) → c .layer-size .result ≤ 2656
+unfolding layerBytes chainBytes
+layer-small c =
+    let s = c .before .before in
+    rw (c .layer-size .ensures) (layer-room (ruledRow (s .args .row)) (s .pre .0))
 
--- src/part_reading.rt:27:17
-mul-layer-2 : tie.Need-mul-layer-2
-mul-layer-2 c = search needs
-
--- src/part_reading.rt:27:36
-cast-layer : tie.Need-cast-layer
-cast-layer c = search needs
-
--- src/part_reading.rt:27:35
-mul-layer-3 : tie.Need-mul-layer-3
-mul-layer-3 c = search needs
-
--- src/part_reading.rt:27:17
-add-layer-2 : tie.Need-add-layer-2
-add-layer-2 c = search needs
-
--- src/part_reading.rt:28:19
-cast-forest : tie.Need-cast-forest
-cast-forest c = search needs
-
--- src/part_reading.rt:28:43
-cast-forest-2 : tie.Need-cast-forest-2
-cast-forest-2 c = search needs
-
--- src/part_reading.rt:28:42
-mul-forest : tie.Need-mul-forest
-mul-forest c = search needs
-
--- src/part_reading.rt:28:38
-add-forest : tie.Need-add-forest
-add-forest c = search needs
-
--- src/part_reading.rt:28:18
-mul-forest-2 : tie.Need-mul-forest-2
-mul-forest-2 c = search needs
-
--- src/part_reading.rt:32:14
 add-result : tie.Need-add-result
-add-result c = search needs
+add-result c =
+    record { fits = omega (arith, forest-small (c .before), c .before .before .before .pre .0 .fit .values) }
 
--- src/part_reading.rt:32:29
-sub-result : tie.Need-sub-result
-sub-result c = search needs
-
--- src/part_reading.rt:32:28
-cast-result : tie.Need-cast-result
-cast-result c = search needs
-
--- src/part_reading.rt:32:27
 mul-result : tie.Need-mul-result
-mul-result c = search needs
+mul-result c =
+    let s = c .before .before .before in
+    let room = start-room (s .args .number) (s .args .row .d) (c .before .layer-size .result) (s .pre .1)
+    (s .pre .0 .fit .layers) (layer-small (c .before)) in
+    record { fits = omega (arith, room) }
 
--- src/part_reading.rt:32:14
 add-result-2 : tie.Need-add-result-2
-add-result-2 c = search needs
+add-result-2 c =
+    let s = c .before .before .before in
+    let room = start-room (s .args .number) (s .args .row .d) (c .before .layer-size .result) (s .pre .1)
+    (s .pre .0 .fit .layers) (layer-small (c .before)) in
+    record { fits = omega (arith, room, forest-small (c .before), s .pre .0 .fit .values) }
 
--- src/part_reading.rt:22:1
 returns : tie.Need-returns
-returns c = search needs
+unfolding partStart
+returns c = ap (partStart (ruledRow (c .before .before .before .args .row))) (sym (c .match .keys1))
 
--- src/part_reading.rt:22:1
 returns-2 : tie.Need-returns-2
-returns-2 c = search needs
+unfolding partStart
+returns-2 c = ap (partStart (ruledRow (c .before .before .before .args .row))) (sym (c .match .keys2))
 
--- src/part_reading.rt:22:1
 returns-3 : tie.Need-returns-3
-returns-3 c = search needs
+returns-3 c =
+    let a = c .before .before .before .args in
+    later-start (ruledRow (a .row)) (a .number) (c .match .rest .0 .1) (c .match .rest .1)
+    (c .before .before .forest-size .ensures) (c .before .layer-size .ensures)
 
 pub part-start-spec : {M : Type 1} → statement M
 part-start-spec =
-    tie.close
-    (tie.spec
-    mul-layer
-    add-layer
-    mul-layer-2
-    cast-layer
-    mul-layer-3
-    add-layer-2
-    cast-forest
-    cast-forest-2
-    mul-forest
-    add-forest
-    mul-forest-2
-    add-result
-    sub-result
-    cast-result
-    mul-result
-    add-result-2
-    returns
-    returns-2
-    returns-3)
+    tie.close (tie.spec (λ c κs. search needs) (λ c κs. search needs) add-result (λ c. search needs) (λ c. search needs) mul-result add-result-2 returns returns-2 returns-3)

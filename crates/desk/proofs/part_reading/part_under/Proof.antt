@@ -1,79 +1,60 @@
+-- `part_under` hands out the part as it lies in the seal, and with a refusal the empty part.
+-- Assumes nothing.
+use mathlib.Core.Path.{_≡_, sym, ap₂, _∙_}
+use Prim.Native.Nat.{_+_, _-_, _≤_}
+use native.Mathlib.Omega.{arith}
+use lib.ListN.{length, take, drop}
+use Rattle.calls.specs.Rows.{ruledRow}
+use Rattle.rules.proofs.SealLaws.{part-fits}
+use Rattle.desk.proofs.OperationLaws.{part-refused, part-read, part-there}
 use borrow.Author.Needs.{needs}
 use Rattle.desk.proofs.part_reading.part_under.Statement.{statement}
 use Rattle.desk.proofs.part_reading.part_under.Tie as tie
-use Rattle.desk.proofs.part_reading.part_under.Reads as reads
-use Rattle.desk.proofs.part_reading.part_under.Lts as lts
-use Rattle.desk.proofs.answers.number_of.Reads as number-of-reads
-use Rattle.desk.proofs.part_reading.part_answer_under.Reads as part-answer-under-reads
-use Rattle.desk.proofs.part_reading.part_length.Reads as part-length-reads
-use Rattle.desk.proofs.part_reading.part_start.Reads as part-start-reads
 
--- src/part_reading.rt:61:9
-part-answer-under-requires : tie.Need-part-answer-under-requires
-part-answer-under-requires c κs = search needs
-
--- src/part_reading.rt:62:8
-number-of-requires : tie.Need-number-of-requires
-number-of-requires c κs = search needs
-
--- src/part_reading.rt:63:16
-sub-result : tie.Need-sub-result
-sub-result c = search needs
-
--- src/part_reading.rt:63:16
-part-result-start : tie.Need-part-result-start
-part-result-start c = search needs
-
--- src/part_reading.rt:63:16
-part-result-end : tie.Need-part-result-end
-part-result-end c = search needs
-
--- src/part_reading.rt:63:9
 returns : tie.Need-returns
-returns c = search needs
+returns c =
+    let a = c .before .before .before .before .before .args in
+    let e = c .before .before .before .part-answer-under .ensures in
+    part-refused (a .seal .now) (a .number) (ruledRow (a .row))
+    (λ z. c .before .if1 .taken (c .before .before .number-of .ensures ∙ e ∙ z))
 
--- src/part_reading.rt:65:9
+-- Where the part is read, every test has passed.
+there : (c : tie.Else1)
+    → let a = c .before .before .before .before .args in
+    (length (a .seal .now) ≡ a .row .seal) × (a .number ≤ a .row .d + 1)
+there c =
+    let a = c .before .before .before .before .args in
+    part-there (a .seal .now) (a .number) (ruledRow (a .row))
+    (sym (c .before .before .part-answer-under .ensures) ∙ sym (c .before .number-of .ensures) ∙ c .if1 .left)
+
 part-start-requires : tie.Need-part-start-requires
-part-start-requires c κs = search needs
+part-start-requires c κs = (c .before .before .before .before .pre, there c .1)
 
--- src/part_reading.rt:66:23
-part-length-requires : tie.Need-part-length-requires
-part-length-requires c κs = search needs
+-- The part lies within the seal.
+inside : (c : tie.After-part-length)
+    → c .before .part-start .result + c .part-length .result ≤ length (c .before .before .before .before .before .before .args .seal .now)
+inside c =
+    let e = c .before .before in
+    let s = e .before .before .before .before in
+    let f = part-fits (ruledRow (s .args .row)) (s .pre .legal) (s .args .number) (omega (arith, there e .1)) in
+    omega (arith, f, there e .0, c .before .part-start .ensures, c .part-length .ensures)
 
--- src/part_reading.rt:66:15
 add-end : tie.Need-add-end
-add-end c = search needs
+add-end c = record { fits = omega (arith, inside c) }
 
--- src/part_reading.rt:67:5
-sub-result-2 : tie.Need-sub-result-2
-sub-result-2 c = search needs
-
--- src/part_reading.rt:67:5
-part-result-start-2 : tie.Need-part-result-start-2
-part-result-start-2 c = search needs
-
--- src/part_reading.rt:67:5
 part-result-end-2 : tie.Need-part-result-end-2
-part-result-end-2 c = search needs
+part-result-end-2 c = omega (arith, inside c)
 
--- src/part_reading.rt:57:1
 returns-2 : tie.Need-returns-2
-returns-2 c = search needs
+returns-2 c =
+    let e = c .before .before .before in
+    let a = e .before .before .before .before .args in
+    ap₂ (λ x y. take (x + y - x) (drop x (a .seal .now))) (c .before .before .part-start .ensures)
+    (c .before .part-length .ensures)
+    ∙ part-read (a .seal .now) (a .number) (ruledRow (a .row))
+    (sym (e .before .before .part-answer-under .ensures) ∙ sym (e .before .number-of .ensures) ∙ e .if1 .left)
 
 pub part-under-spec : {M : Type 1} → statement M
 part-under-spec =
     tie.close
-    (tie.spec
-    part-answer-under-requires
-    number-of-requires
-    sub-result
-    part-result-start
-    part-result-end
-    returns
-    part-start-requires
-    part-length-requires
-    add-end
-    sub-result-2
-    part-result-start-2
-    part-result-end-2
-    returns-2)
+    (tie.spec (λ c κs. search needs) (λ c κs. search needs) (λ c. search needs) (λ c. search needs) (λ c. search needs) returns part-start-requires (λ c κs. search needs) add-end (λ c. search needs) (λ c. search needs) part-result-end-2 returns-2)
