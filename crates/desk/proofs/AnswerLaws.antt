@@ -284,20 +284,32 @@ module _ (a b c d e : Bool) (A B C D E : Type 0)
       all =
           and-tells a _ A _ t2 (and-tells b _ B _ t3 (and-tells c _ C _ t4 (and-tells d e D E t5 t6)))
 
--- An answer that is 1 where there is no row is 0 exactly when there is a row under which it is.
-pub done-when : (row : Option Row) (n : Option Row → ℕ) (P : Row → Type 0) → n none ≡ 1
-    → ((r : Row) → (n (some r) ≡ 0) ↔ P r) → (n row ≡ 0) ↔ Under row P
-done-when none n P one at =
-    (λ z. absurd (omega (arith, z, one)), λ u. absurd (Option·none-ne-some (u .known) (u .found)))
-done-when (some r) n P one at = (
-  λ z. record { known = r; found = refl; holds = at r .0 z },
-  λ u. at r .1 (at-row (some r) P r refl u),
-)
+-- The refusals of a set, given its row or that it has none, and an answer with their number.
+module _ (row : Option Row) (refusals : Option Row → Refusals) (n : ℕ) (answered : n ≡ smallest (refusals row))
+    (unknown : refusals none .unknown-set ≡ true) where
+  one-of-none : (o : Option Row) → o ≡ none → smallest (refusals o) ≡ 1
+  unfolding smallest
+  one-of-none o e = rw (e, unknown)
 
--- An answer other than 1 has a row.
-pub known-row : (row : Option Row) (n : Option Row → ℕ) → n none ≡ 1 → n row ≢ 1 → Under row (λ r. Unit {0})
-known-row none n one other = absurd (other one)
-known-row (some r) n one other = record { known = r; found = refl; holds = tt }
+  -- The answer is 0 exactly when there is a row under which it is.
+  pub done-when : (P : Row → Type 0) → ((r : Row) → (smallest (refusals (some r)) ≡ 0) ↔ P r) → (n ≡ 0) ↔ Under row P
+  done-when P at = (λ z. forth row refl (sym answered ∙ z), λ u. answered ∙ back-to u)
+    where
+      forth : (o : Option Row) → row ≡ o → smallest (refusals row) ≡ 0 → Under row P
+      forth none e z = let one = one-of-none row e in absurd (omega arith)
+      forth (some r) e z =
+          record { known = r; found = e; holds = at r .0 (rw e at z) }
+
+      back-to : Under row P → smallest (refusals row) ≡ 0
+      back-to u = rw (u .found) (at (u .known) .1 (u .holds))
+
+  -- An answer other than 1 has a row.
+  pub known-row : n ≢ 1 → (r : Row) × (row ≡ some r)
+  known-row other = by-row row refl
+    where
+      by-row : (o : Option Row) → row ≡ o → (r : Row) × (row ≡ some r)
+      by-row none e = absurd (other (answered ∙ one-of-none row e))
+      by-row (some r) e = (r, e)
 
 -- ---- Buffers, and answers as numbers
 

@@ -1,2 +1,3 @@
 pub mod DeskLaws
 pub mod AnswerLaws
+pub mod Demands

@@ -1,0 +1,222 @@
+-- What the examiner asked for, of each of the desk's promises: demands 1 to 3, single outcomes, and the F count.
+-- The demands' own words stand in quotation marks. Every theorem holds for whatever bytes and lengths were handed over.
+-- Assumes nothing.
+use mathlib.Core.Path.{_≡_, refl, sym, ap, ap₂, _∙_, subst}
+use mathlib.Core.Logic.{_↔_, Iff·trans, _≢_, _⊎_, inl, inr}
+use mathlib.Core.Bool.{Bool, true, false, not, cond, _&&_, _||_}
+use mathlib.Core.List.{List, [], _∷_}
+use mathlib.Core.Option.{Option, some, none}
+use Prim.Native.Nat.{ℕ, zero, suc, _+_, _*_, _≤_, _<_}
+use native.Mathlib.Omega.{arith}
+use lib.Dec.{eqb, leb}
+use lib.ListN.{length}
+use Rattle.rules.specs.Places.{Bytes}
+use Rattle.rules.specs.Calls.{F, of}
+use Rattle.rules.specs.Chains.{chains, chainDigits}
+use Rattle.rules.specs.Digest.{Row, Legal}
+use Rattle.rules.specs.Keys.{piece, publicKey, secretKey}
+use Rattle.rules.specs.Seal.{frame, sealOf, part}
+use Rattle.rules.specs.Check.{checkedRoot, Accepted}
+use Rattle.rules.specs.Findings.{OneOfThree}
+use Rattle.rules.specs.Counts.{count, cost, fCalls}
+use Rattle.rules.specs.Sets.{rows, rowOf}
+use Rattle.rules.proofs.KeyLaws.{publicKey-long}
+use Rattle.rules.proofs.Accepts.{accepts}
+use Rattle.rules.proofs.OneOfThree.{one-of-three}
+use Rattle.rules.proofs.CountLaws.{F-calls}
+use Rattle.rules.proofs.CostLaws.{F-least, F-greatest}
+use Rattle.rules.proofs.SetLaws.{rowOf-legal}
+use Rattle.points.specs.Ready.{familyFor}
+use Rattle.desk.specs.Answers.{number, Refusals, applies, smallest, missing, fails, messageFits, messageLimit, same, settled}
+use Rattle.desk.specs.Keys.{keysRefusals, keysAnswer, KeysMade}
+use Rattle.desk.specs.Seals.{sealRefusals, sealAnswer, Sealed}
+use Rattle.desk.specs.Checks.{recomputed, checkRefusals, checkAnswer, checkCalls, Checked}
+use Rattle.desk.specs.Parts.{partRefusals, partAnswer, partGiven}
+use Rattle.desk.specs.Digits.{digitsRefusals, digitsAnswer, DigitsRead}
+use Rattle.desk.specs.Table.{Given, Under, Unlisted, SeedsLong, KeysLong, SealInputsLong, Fitting, SameRoot, keysLine, sealLine, checkLine, partLine, digitsLine}
+use Rattle.desk.specs.declared.answers.Answer.{Answer}
+use Rattle.desk.specs.declared.checking.Verdict.{Verdict}
+use Rattle.desk.proofs.AnswerLaws.{Tells, eqb-tells, leb-tells, always-tells, never-tells, and-tells, or-tells, above-tells, same-tells, missing-tells, at-row, fails-tells, fails-not, no-row, smallest-given, one-given, answer-given, all-pass, done-when, known-row, settled-made, settled-kept, number-injective}
+
+-- ==== Demand 1
+
+-- The smallest number that applies is the one that the table gives.
+pub given : (r : Refusals) (c : ℕ) → (smallest r ≡ c) ↔ Given (λ k. applies r k ≡ true) c
+unfolding applies
+given r c = (
+  λ e. subst (Given line) e (smallest-given r),
+  λ g. one-given line (λ e. absurd (never-tells .told e)) (smallest r) c (smallest-given r) g,
+)
+  where
+    line : ℕ → Type 0
+    line k = applies r k ≡ true
+
+-- Line 1 of the table applies exactly when no set has the number.
+pub unknown-set : (set : ℕ) → (rowOf set ≡ none) ↔ Unlisted set rows
+unknown-set = no-row
+
+-- The tests of lengths tell what a set asks.
+seeds-tell : (skSeed skPrf pkSeed : Bytes) (r : Row)
+    → Tells (eqb (length skSeed) (r .n) && (eqb (length skPrf) (r .n) && eqb (length pkSeed) (r .n)))
+    (SeedsLong skSeed skPrf pkSeed r)
+seeds-tell skSeed skPrf pkSeed r =
+    and-tells _ _ _ _ (eqb-tells (length skSeed) (r .n))
+    (and-tells _ _ _ _ (eqb-tells (length skPrf) (r .n)) (eqb-tells (length pkSeed) (r .n)))
+
+keys-tell : (public secret : Bytes) (r : Row)
+    → Tells (eqb (length public) (r .publicBytes) && eqb (length secret) (r .secretBytes)) (KeysLong public secret r)
+keys-tell public secret r =
+    and-tells _ _ _ _ (eqb-tells (length public) (r .publicBytes)) (eqb-tells (length secret) (r .secretBytes))
+
+inputs-tell : (secret random : Bytes) (r : Row)
+    → Tells (eqb (length secret) (r .secretBytes) && (eqb (length random) 0 || eqb (length random) (r .n)))
+    (SealInputsLong secret random r)
+inputs-tell secret random r =
+    and-tells _ _ _ _ (eqb-tells (length secret) (r .secretBytes))
+    (or-tells _ _ _ _ (eqb-tells (length random) 0) (eqb-tells (length random) (r .n)))
+
+-- ---- Key making
+
+module _ (set : ℕ) (skSeed skPrf pkSeed public secret : Bytes) (a : Answer) (public-after secret-after : Bytes)
+    (made : KeysMade (rowOf set) skSeed skPrf pkSeed public secret a public-after secret-after) where
+  -- "gives a numbered refusal exactly when the paper says so"
+  pub keys-answer : (c : ℕ) → (number a ≡ c) ↔ Given (keysLine (rowOf set) skSeed skPrf pkSeed public secret) c
+  keys-answer =
+      answer-given (keysRefusals (rowOf set) skSeed skPrf pkSeed public secret) _ _ _ _ _ _ (missing-tells (rowOf set))
+      (fails-not (rowOf set) _ (SeedsLong skSeed skPrf pkSeed) (seeds-tell skSeed skPrf pkSeed)) never-tells
+      (fails-not (rowOf set) _ (KeysLong public secret) (keys-tell public secret)) never-tells never-tells (number a)
+      (made .answered)
+
+  -- The keys are made exactly when the set is known and each length is the set's.
+  pub keys-done : (number a ≡ 0)
+      ↔ Under (rowOf set) (λ r. SeedsLong skSeed skPrf pkSeed r × KeysLong public secret r)
+  keys-done =
+      done-when (rowOf set) (λ row. keysRefusals row skSeed skPrf pkSeed public secret) (number a) (made .answered) refl
+      (λ r. SeedsLong skSeed skPrf pkSeed r × KeysLong public secret r) (λ r.
+      Iff·trans (all-pass _ _ _ _ _ _ _ _ _ _ (seeds-tell skSeed skPrf pkSeed r) always-tells
+      (keys-tell public secret r) always-tells always-tells)
+      (λ p. (p .0, p .1 .1 .0), λ q. (q .0, (tt, (q .1, (tt, tt))))))
+
+  -- "A refusal changes no byte of any buffer."
+  pub keys-kept : number a ≢ 0 → (public-after ≡ public) × (secret-after ≡ secret)
+  keys-kept refused = (
+    made .public-is ∙ settled-kept _ (rowOf set) _ public (λ z. refused (made .answered ∙ z)),
+    made .secret-is ∙ settled-kept _ (rowOf set) _ secret (λ z. refused (made .answered ∙ z)),
+  )
+
+-- ---- Sealing
+
+module _ (set : ℕ) (secret message random out : Bytes) (a : Answer) (out-after : Bytes)
+    (sealed : Sealed (rowOf set) secret message random out a out-after) where
+  pub seal-answer : (c : ℕ) → (number a ≡ c) ↔ Given (sealLine (rowOf set) secret message random out) c
+  seal-answer =
+      answer-given (sealRefusals (rowOf set) secret message random out) _ _ _ _ _ _ (missing-tells (rowOf set))
+      (fails-not (rowOf set) _ (SealInputsLong secret random) (inputs-tell secret random))
+      (above-tells (length message) messageLimit)
+      (fails-not (rowOf set) _ (λ r. length out ≡ r .sealBytes) (λ r. eqb-tells (length out) (r .sealBytes)))
+      never-tells never-tells (number a) (sealed .answered)
+
+  pub seal-done : (number a ≡ 0) ↔ Under (rowOf set) (λ r.
+      SealInputsLong secret random r × (Fitting message × (length out ≡ r .sealBytes)))
+  seal-done =
+      done-when (rowOf set) (λ row. sealRefusals row secret message random out) (number a) (sealed .answered) refl
+      (λ r. SealInputsLong secret random r × (Fitting message × (length out ≡ r .sealBytes))) (λ r.
+      Iff·trans (all-pass _ _ _ _ _ _ _ _ _ _ (inputs-tell secret random r) (leb-tells (length message) messageLimit)
+      (eqb-tells (length out) (r .sealBytes)) always-tells always-tells)
+      (λ p. (p .0, (p .1 .0, p .1 .1 .0)), λ q. (q .0, (q .1 .0, (q .1 .1, (tt, tt))))))
+
+  pub seal-kept : number a ≢ 0 → out-after ≡ out
+  seal-kept refused =
+      sealed .out-is ∙ settled-kept _ (rowOf set) _ out (λ z. refused (sealed .answered ∙ z))
+
+-- ---- Checking, which is lent nothing to write to
+
+root-tells : (public message seal : Bytes) (r : Row)
+    → Tells (same (checkedRoot r (familyFor r) public (frame message) seal .result) (piece (r .n) 1 public))
+    (SameRoot public message seal r)
+root-tells public message seal r =
+    same-tells (checkedRoot r (familyFor r) public (frame message) seal .result) (piece (r .n) 1 public)
+
+module _ (set : ℕ) (public message seal : Bytes) (v : Verdict)
+    (checked : Checked (rowOf set) public message seal v) where
+  pub check-answer : (c : ℕ) → (number (v .answer) ≡ c) ↔ Given (checkLine (rowOf set) public message seal) c
+  check-answer =
+      answer-given (checkRefusals (rowOf set) public message seal) _ _ _ _ _ _ (missing-tells (rowOf set))
+      (fails-not (rowOf set) _ (λ r. length public ≡ r .publicBytes) (λ r. eqb-tells (length public) (r .publicBytes)))
+      (above-tells (length message) messageLimit)
+      (fails-not (rowOf set) _ (λ r. length seal ≡ r .sealBytes) (λ r. eqb-tells (length seal) (r .sealBytes)))
+      (fails-not (rowOf set) _ (SameRoot public message seal) (root-tells public message seal)) never-tells
+      (number (v .answer)) (checked .answered)
+
+-- ---- Part reading: its answer, and its part
+
+module _ (set : ℕ) (seal : Bytes) (k : ℕ) (a : Answer) (given-part : Bytes)
+    (answered : number a ≡ partAnswer (rowOf set) seal k) (read : given-part ≡ partGiven (rowOf set) seal k) where
+  pub part-answer : (c : ℕ) → (number a ≡ c) ↔ Given (partLine (rowOf set) seal k) c
+  part-answer =
+      answer-given (partRefusals (rowOf set) seal k) _ _ _ _ _ _ (missing-tells (rowOf set)) never-tells never-tells
+      (fails-not (rowOf set) _ (λ r. length seal ≡ r .sealBytes) (λ r. eqb-tells (length seal) (r .sealBytes)))
+      never-tells (fails-tells (rowOf set) _ (λ r. r .d + 1 < k) (λ r. above-tells k (r .d + 1))) (number a) answered
+
+  pub part-done : (number a ≡ 0) ↔ Under (rowOf set) (λ r. (length seal ≡ r .sealBytes) × (k ≤ r .d + 1))
+  part-done =
+      done-when (rowOf set) (λ row. partRefusals row seal k) (number a) answered refl
+      (λ r. (length seal ≡ r .sealBytes) × (k ≤ r .d + 1)) (λ r.
+      Iff·trans (all-pass _ _ _ _ _ _ _ _ _ _ always-tells always-tells (eqb-tells (length seal) (r .sealBytes))
+      always-tells (leb-tells k (r .d + 1)))
+      (λ p. (p .1 .1 .0, p .1 .1 .1 .1), λ q. (tt, (tt, (q .0, (tt, q .1))))))
+
+  -- "part reading returns an empty part with every refusal"
+  pub part-empty : number a ≢ 0 → given-part ≡ []
+  part-empty refused = read ∙ settled-kept _ (rowOf set) _ [] (λ z. refused (answered ∙ z))
+
+-- ---- Chain digits
+
+module _ (set : ℕ) (value : Bytes) (digits : List ℕ) (a : Answer) (digits-after : List ℕ)
+    (read : DigitsRead (rowOf set) value digits a digits-after) where
+  pub digits-answer : (c : ℕ) → (number a ≡ c) ↔ Given (digitsLine (rowOf set) value digits) c
+  digits-answer =
+      answer-given (digitsRefusals (rowOf set) value digits) _ _ _ _ _ _ (missing-tells (rowOf set))
+      (fails-not (rowOf set) _ (λ r. length value ≡ r .n) (λ r. eqb-tells (length value) (r .n))) never-tells
+      (fails-not (rowOf set) _ (λ r. length digits ≡ chains (r .n)) (λ r. eqb-tells (length digits) (chains (r .n))))
+      never-tells never-tells (number a) (read .answered)
+
+  pub digits-done : (number a ≡ 0) ↔ Under (rowOf set) (λ r.
+      (length value ≡ r .n) × (length digits ≡ chains (r .n)))
+  digits-done =
+      done-when (rowOf set) (λ row. digitsRefusals row value digits) (number a) (read .answered) refl
+      (λ r. (length value ≡ r .n) × (length digits ≡ chains (r .n))) (λ r.
+      Iff·trans (all-pass _ _ _ _ _ _ _ _ _ _ (eqb-tells (length value) (r .n)) always-tells
+      (eqb-tells (length digits) (chains (r .n))) always-tells always-tells)
+      (λ p. (p .0, p .1 .1 .0), λ q. (q .0, (tt, (q .1, (tt, tt))))))
+
+  pub digits-kept : number a ≢ 0 → digits-after ≡ digits
+  digits-kept refused =
+      read .digits-are ∙ settled-kept _ (rowOf set) _ digits (λ z. refused (read .answered ∙ z))
+
+-- ==== Demand 2
+
+-- "Keys [...] are byte for byte those of FIPS 205"
+module _ (set : ℕ) (skSeed skPrf pkSeed public secret : Bytes) (a : Answer) (public-after secret-after : Bytes)
+    (made : KeysMade (rowOf set) skSeed skPrf pkSeed public secret a public-after secret-after)
+    (done : number a ≡ 0) where
+  pub keys-are : Under (rowOf set) (λ r.
+      (public-after ≡ publicKey r (familyFor r) skSeed pkSeed)
+      × (secret-after ≡ secretKey r (familyFor r) skSeed skPrf pkSeed))
+  keys-are = record {
+    known = r;
+    found = e;
+    holds = (
+      made .public-is ∙ settled-made _ (rowOf set) _ public r (sym (made .answered) ∙ done) e,
+      made .secret-is ∙ settled-made _ (rowOf set) _ secret r (sym (made .answered) ∙ done) e,
+    );
+  }
+    where
+      legal : Under (rowOf set) (λ r. SeedsLong skSeed skPrf pkSeed r × KeysLong public secret r)
+      legal = keys-done set skSeed skPrf pkSeed public secret a public-after secret-after made .0 done
+
+      r : Row
+      r = legal .known
+
+      e : rowOf set ≡ some r
+      e = legal .found
