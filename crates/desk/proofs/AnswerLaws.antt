@@ -75,6 +75,11 @@ above-tells m n =
     told-as (not (leb m n)) (¬ (m ≤ n)) (n < m) lt-of-not-le not-le-of-lt
     (not-tells (leb m n) (m ≤ n) (leb-tells m n))
 
+-- What doesn't hold is told by false.
+pub untold : (b : Bool) (P : Type 0) → Tells b P → ¬ P → b ≡ false
+untold true P t no-P = absurd (no-P (t .told refl))
+untold false P t no-P = refl
+
 -- Two strings are the same exactly when their test says so.
 same→eq : (x y : Bytes) → same x y ≡ true → x ≡ y
 unfolding same
@@ -104,6 +109,10 @@ missing-tells (some r) =
 -- What is said of a known set's row is said of the row found.
 pub at-row : (row : Option Row) (P : Row → Type 0) (r : Row) → row ≡ some r → Under row P → P r
 at-row row P r e u = subst P (Option·some-injective (u .known) r (sym (u .found) ∙ e)) (u .holds)
+
+-- What follows for the row found.
+pub mapped : (row : Option Row) (P Q : Row → Type 0) → ((r : Row) → row ≡ some r → P r → Q r) → Under row P → Under row Q
+mapped row P Q f u = record { known = u .known; found = u .found; holds = f (u .known) (u .found) (u .holds) }
 
 -- A known set fails a test exactly when the failure holds of the row found.
 pub fails-tells : (row : Option Row) (t : Row → Bool) (P : Row → Type 0) → ((r : Row) → Tells (not (t r)) (P r))
@@ -348,3 +357,16 @@ back NoPart = refl
 -- Answers of one number are one answer.
 pub number-injective : (a b : Answer) → number a ≡ number b → a ≡ b
 number-injective a b e = sym (back a) ∙ ap answerOf e ∙ back b
+
+-- ---- The F calls that a check reports
+
+-- They are those of the walk with answers 0 and 5, and none with answers 1 to 4.
+pub walked-calls : (n calls : ℕ) → (n ≡ 0) ⊎ (n ≡ 5) → cond (eqb n 0 || eqb n 5) calls 0 ≡ calls
+walked-calls n calls (inl z) = ap (λ (x : ℕ). cond (eqb x 0 || eqb x 5) calls 0) z
+walked-calls n calls (inr z) = ap (λ (x : ℕ). cond (eqb x 0 || eqb x 5) calls 0) z
+
+pub idle-calls : (n calls : ℕ) → 0 < n → n < 5 → cond (eqb n 0 || eqb n 5) calls 0 ≡ 0
+idle-calls n calls low high =
+    ap₂ (λ (a b : Bool). cond (a || b) calls 0)
+    (untold (eqb n 0) (n ≡ 0) (eqb-tells n 0) (λ e. not-le-of-lt low (omega arith)))
+    (untold (eqb n 5) (n ≡ 5) (eqb-tells n 5) (λ e. not-le-of-lt high (omega arith)))

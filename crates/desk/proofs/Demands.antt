@@ -36,7 +36,7 @@ use Rattle.desk.specs.Digits.{digitsRefusals, digitsAnswer, DigitsRead}
 use Rattle.desk.specs.Table.{Given, Under, Unlisted, SeedsLong, KeysLong, SealInputsLong, Fitting, SameRoot, keysLine, sealLine, checkLine, partLine, digitsLine}
 use Rattle.desk.specs.declared.answers.Answer.{Answer}
 use Rattle.desk.specs.declared.checking.Verdict.{Verdict}
-use Rattle.desk.proofs.AnswerLaws.{Tells, eqb-tells, leb-tells, always-tells, never-tells, and-tells, or-tells, above-tells, same-tells, missing-tells, at-row, fails-tells, fails-not, no-row, smallest-given, one-given, answer-given, all-pass, done-when, known-row, settled-made, settled-kept, number-injective}
+use Rattle.desk.proofs.AnswerLaws.{Tells, eqb-tells, leb-tells, always-tells, never-tells, and-tells, or-tells, above-tells, same-tells, missing-tells, at-row, mapped, fails-tells, fails-not, no-row, smallest-given, one-given, answer-given, all-pass, done-when, known-row, settled-made, settled-kept, number-injective, walked-calls, idle-calls}
 
 -- ==== Demand 1
 
@@ -196,27 +196,198 @@ module _ (set : ℕ) (value : Bytes) (digits : List ℕ) (a : Answer) (digits-af
 
 -- ==== Demand 2
 
--- "Keys [...] are byte for byte those of FIPS 205"
-module _ (set : ℕ) (skSeed skPrf pkSeed public secret : Bytes) (a : Answer) (public-after secret-after : Bytes)
-    (made : KeysMade (rowOf set) skSeed skPrf pkSeed public secret a public-after secret-after)
-    (done : number a ≡ 0) where
-  pub keys-are : Under (rowOf set) (λ r.
-      (public-after ≡ publicKey r (familyFor r) skSeed pkSeed)
-      × (secret-after ≡ secretKey r (familyFor r) skSeed skPrf pkSeed))
-  keys-are = record {
-    known = r;
-    found = e;
-    holds = (
+-- "Keys and seals are byte for byte those of FIPS 205": where the answer is 0, the buffers hold the rules' bytes.
+pub keys-are : (set : ℕ) (skSeed skPrf pkSeed public secret : Bytes) (a : Answer) (public-after secret-after : Bytes)
+    → KeysMade (rowOf set) skSeed skPrf pkSeed public secret a public-after secret-after → number a ≡ 0
+    → Under (rowOf set) (λ r.
+    (public-after ≡ publicKey r (familyFor r) skSeed pkSeed)
+    × (secret-after ≡ secretKey r (familyFor r) skSeed skPrf pkSeed))
+keys-are set skSeed skPrf pkSeed public secret a public-after secret-after made done =
+    mapped (rowOf set) _ _
+    (λ r e legal. (
       made .public-is ∙ settled-made _ (rowOf set) _ public r (sym (made .answered) ∙ done) e,
       made .secret-is ∙ settled-made _ (rowOf set) _ secret r (sym (made .answered) ∙ done) e,
-    );
-  }
+    ))
+    (keys-done set skSeed skPrf pkSeed public secret a public-after secret-after made .0 done)
+
+pub seal-is : (set : ℕ) (secret message random out : Bytes) (a : Answer) (seal : Bytes)
+    → Sealed (rowOf set) secret message random out a seal → number a ≡ 0
+    → Under (rowOf set) (λ r. seal ≡ sealOf r (familyFor r) secret random (frame message) .result)
+seal-is set secret message random out a seal sealed done =
+    mapped (rowOf set) _ _
+    (λ r e legal. sealed .out-is ∙ settled-made _ (rowOf set) _ out r (sym (sealed .answered) ∙ done) e)
+    (seal-done set secret message random out a seal sealed .0 done)
+
+-- The two readings: the part as it lies in the seal, and the digits with their checksum.
+pub part-is : (set : ℕ) (seal : Bytes) (k : ℕ) (a : Answer) (given-part : Bytes)
+    → number a ≡ partAnswer (rowOf set) seal k → given-part ≡ partGiven (rowOf set) seal k → number a ≡ 0
+    → Under (rowOf set) (λ r. given-part ≡ part r k seal)
+part-is set seal k a given-part answered read done =
+    mapped (rowOf set) _ _
+    (λ r e legal. read ∙ settled-made _ (rowOf set) _ [] r (sym answered ∙ done) e)
+    (part-done set seal k a given-part answered read .0 done)
+
+pub digits-are : (set : ℕ) (value : Bytes) (digits : List ℕ) (a : Answer) (digits-after : List ℕ)
+    → DigitsRead (rowOf set) value digits a digits-after → number a ≡ 0
+    → Under (rowOf set) (λ r. digits-after ≡ chainDigits (r .n) value)
+digits-are set value digits a digits-after read done =
+    mapped (rowOf set) _ _
+    (λ r e legal. read .digits-are ∙ settled-made _ (rowOf set) _ digits r (sym (read .answered) ∙ done) e)
+    (digits-done set value digits a digits-after read .0 done)
+
+-- "A check accepts exactly when set and lengths are legal and the root recomputed by FIPS 205 equals the key's."
+pub accepted-exactly : (set : ℕ) (public message seal : Bytes) (v : Verdict)
+    → Checked (rowOf set) public message seal v
+    → (number (v .answer) ≡ 0) ↔ Under (rowOf set) (λ r.
+    (length public ≡ r .publicBytes) × (Fitting message × Accepted r (familyFor r) public (frame message) seal))
+accepted-exactly set public message seal v checked =
+    done-when (rowOf set) (λ row. checkRefusals row public message seal) (number (v .answer)) (checked .answered) refl
+    (λ r. (length public ≡ r .publicBytes) × (Fitting message × Accepted r (familyFor r) public (frame message) seal))
+    (λ r.
+    Iff·trans (all-pass _ _ _ _ _ _ _ _ _ _ (eqb-tells (length public) (r .publicBytes))
+    (leb-tells (length message) messageLimit) (eqb-tells (length seal) (r .sealBytes))
+    (root-tells public message seal r) always-tells) (
+      λ p. (p .0, (p .1 .0, record { long = p .1 .1 .0; same-root = p .1 .1 .1 .0 })),
+      λ q. (q .0, (q .1 .0, (q .1 .1 .long, (q .1 .1 .same-root, tt)))),
+    ))
+
+-- A key pair from key making, and its set.
+module _ (set : ℕ) (skSeed skPrf pkSeed public-was secret-was : Bytes) (a : Answer) (public secret : Bytes)
+    (made : KeysMade (rowOf set) skSeed skPrf pkSeed public-was secret-was a public secret) (done : number a ≡ 0) where
+  abbrev Pair : Row → Type 0
+  Pair r =
+      (public ≡ publicKey r (familyFor r) skSeed pkSeed) × (secret ≡ secretKey r (familyFor r) skSeed skPrf pkSeed)
+
+  keys : Under (rowOf set) Pair
+  keys = keys-are set skSeed skPrf pkSeed public-was secret-was a public secret made done
+
+  seeds-long : (r : Row) → rowOf set ≡ some r → SeedsLong skSeed skPrf pkSeed r
+  seeds-long r e =
+      at-row (rowOf set) (λ q. SeedsLong skSeed skPrf pkSeed q × KeysLong public-was secret-was q) r e
+      (keys-done set skSeed skPrf pkSeed public-was secret-was a public secret made .0 done) .0
+
+  -- "Every seal made with a secret key from our key making for the same set is accepted, for that message, under its
+  -- public key."
+  pub own-seals-accepted : (message random out : Bytes) (b : Answer) (seal : Bytes)
+      → Sealed (rowOf set) secret message random out b seal → number b ≡ 0
+      → (v : Verdict) → Checked (rowOf set) public message seal v → number (v .answer) ≡ 0
+  own-seals-accepted message random out b seal sealed sealing-done v checked =
+      accepted-exactly set public message seal v checked .1
+      (mapped (rowOf set) _ _ (λ r e ks. (long r e ks, (fits, accepted r e ks))) keys)
     where
-      legal : Under (rowOf set) (λ r. SeedsLong skSeed skPrf pkSeed r × KeysLong public secret r)
-      legal = keys-done set skSeed skPrf pkSeed public secret a public-after secret-after made .0 done
+      fits : Fitting message
+      fits = seal-done set secret message random out b seal sealed .0 sealing-done .holds .1 .0
 
-      r : Row
-      r = legal .known
+      long : (r : Row) → rowOf set ≡ some r → Pair r → length public ≡ r .publicBytes
+      long r e ks =
+          ap length (ks .0)
+          ∙ publicKey-long r (familyFor r) skSeed pkSeed (seeds-long r e .1 .1) (rowOf-legal set r e .1)
 
-      e : rowOf set ≡ some r
-      e = legal .found
+      accepted : (r : Row) → rowOf set ≡ some r → Pair r → Accepted r (familyFor r) public (frame message) seal
+      accepted r e ks =
+          rw (
+            ks .0,
+            at-row (rowOf set) _ r e (seal-is set secret message random out b seal sealed sealing-done),
+            ks .1,
+          )
+          (accepts r (familyFor r) (rowOf-legal set r e .1) skSeed skPrf pkSeed (seeds-long r e .0)
+          (seeds-long r e .1 .0) (seeds-long r e .1 .1) random (frame message))
+
+  -- ==== Demand 3
+
+  -- "Take a key pair made from given seeds, and any message and seal accepted under it and its set, whoever wrote the
+  -- seal. Then one of three things can be pointed to. [...] There is no fourth case."
+  pub accepted-is-one-of-three : (message seal : Bytes) (v : Verdict)
+      → Checked (rowOf set) public message seal v → number (v .answer) ≡ 0
+      → Under (rowOf set) (λ r. OneOfThree r (familyFor r) skSeed pkSeed (frame message) seal)
+  accepted-is-one-of-three message seal v checked accepted =
+      mapped (rowOf set) _ _
+      (λ r e q.
+      one-of-three r (rowOf-legal set r e .1) (familyFor r) skSeed pkSeed (frame message) seal
+      (seeds-long r e .1 .1)
+      (subst (λ (x : Bytes). Accepted r (familyFor r) x (frame message) seal) (at-row (rowOf set) _ r e keys .0)
+      (q .1 .1)))
+      (accepted-exactly set public message seal v checked .0 accepted)
+
+-- ==== "any pair of outcomes allowed by one promise is a single outcome"
+
+pub single-keys : (set : ℕ) (skSeed skPrf pkSeed public secret : Bytes) (a b : Answer) (p q s t : Bytes)
+    → KeysMade (rowOf set) skSeed skPrf pkSeed public secret a p s
+    → KeysMade (rowOf set) skSeed skPrf pkSeed public secret b q t → (a ≡ b) × ((p ≡ q) × (s ≡ t))
+single-keys set skSeed skPrf pkSeed public secret a b p q s t one other = (
+  number-injective a b (one .answered ∙ sym (other .answered)),
+  (one .public-is ∙ sym (other .public-is), one .secret-is ∙ sym (other .secret-is)),
+)
+
+pub single-seal : (set : ℕ) (secret message random out : Bytes) (a b : Answer) (s t : Bytes)
+    → Sealed (rowOf set) secret message random out a s → Sealed (rowOf set) secret message random out b t
+    → (a ≡ b) × (s ≡ t)
+single-seal set secret message random out a b s t one other =
+    (number-injective a b (one .answered ∙ sym (other .answered)), one .out-is ∙ sym (other .out-is))
+
+pub single-check : (set : ℕ) (public message seal : Bytes) (v w : Verdict)
+    → Checked (rowOf set) public message seal v → Checked (rowOf set) public message seal w → v ≡ w
+single-check set public message seal v w one other = λ i. record { answer = same-answer i; calls = same-calls i }
+  where
+    same-answer : v .answer ≡ w .answer
+    same-answer = number-injective (v .answer) (w .answer) (one .answered ∙ sym (other .answered))
+
+    same-calls : v .calls ≡ w .calls
+    same-calls = one .counted ∙ sym (other .counted)
+
+pub single-part : (set : ℕ) (seal : Bytes) (k : ℕ) (a b : Answer) (p q : Bytes)
+    → number a ≡ partAnswer (rowOf set) seal k → number b ≡ partAnswer (rowOf set) seal k
+    → p ≡ partGiven (rowOf set) seal k → q ≡ partGiven (rowOf set) seal k → (a ≡ b) × (p ≡ q)
+single-part set seal k a b p q one other this that = (number-injective a b (one ∙ sym other), this ∙ sym that)
+
+pub single-digits : (set : ℕ) (value : Bytes) (digits : List ℕ) (a b : Answer) (p q : List ℕ)
+    → DigitsRead (rowOf set) value digits a p → DigitsRead (rowOf set) value digits b q → (a ≡ b) × (p ≡ q)
+single-digits set value digits a b p q one other =
+    (number-injective a b (one .answered ∙ sym (other .answered)), one .digits-are ∙ sym (other .digits-are))
+
+-- ==== "The check also reports how many F calls it made"
+
+module _ (set : ℕ) (public message seal : Bytes) (v : Verdict)
+    (checked : Checked (rowOf set) public message seal v) where
+  calls-under : (r : Row) → rowOf set ≡ some r → (number (v .answer) ≡ 0) ⊎ (number (v .answer) ≡ 5)
+      → v .calls ≡ count (of F) (checkedRoot r (familyFor r) public (frame message) seal .calls)
+  calls-under r e walked =
+      checked .counted ∙ ap (λ (o : Option Row). checkCalls o public message seal) e
+      ∙ walked-calls (checkAnswer (some r) public message seal) _ (rw answer at walked)
+    where
+      answer : number (v .answer) ≡ checkAnswer (some r) public message seal
+      answer = checked .answered ∙ ap (λ (o : Option Row). checkAnswer o public message seal) e
+
+  -- "equal to the number of F calls in the definition's list of calls: k + the sum over all layers and chains of
+  -- (15 - digit)": with answers 0 and 5. And the least and the greatest number, by the costs of one value.
+  pub calls-counted : (number (v .answer) ≡ 0) ⊎ (number (v .answer) ≡ 5)
+      → Under (rowOf set) (λ r.
+      (v .calls ≡ count (of F) (checkedRoot r (familyFor r) public (frame message) seal .calls))
+      × ((v .calls ≡ fCalls r (familyFor r) public (frame message) seal)
+      × ((r .k + 45 * r .d ≤ v .calls) × (v .calls ≤ r .k + cost (30 * r .n) * r .d))))
+  calls-counted walked =
+      let (r, e) = known-row (rowOf set) (λ row. checkRefusals row public message seal) (number (v .answer))
+      (checked .answered) refl (not-one walked) in
+      let legal = rowOf-legal set r e .1 in
+      let listed = calls-under r e walked in
+      let summed = listed ∙ F-calls r (familyFor r) legal public (frame message) seal in
+      record {
+        known = r;
+        found = e;
+        holds = (
+          listed,
+          (summed,
+          (omega (arith, summed, F-least r legal (familyFor r) public (frame message) seal),
+          omega (arith, summed, F-greatest r legal (familyFor r) public (frame message) seal))),
+        );
+      }
+    where
+      not-one : (number (v .answer) ≡ 0) ⊎ (number (v .answer) ≡ 5) → number (v .answer) ≢ 1
+      not-one (inl z) one = absurd (omega arith)
+      not-one (inr z) one = absurd (omega arith)
+
+  -- "Answers 1 to 4 report 0"
+  pub calls-none : 0 < number (v .answer) → number (v .answer) < 5 → v .calls ≡ 0
+  calls-none low high =
+      checked .counted
+      ∙ idle-calls (checkAnswer (rowOf set) public message seal) _ (rw (← checked .answered) low) (rw (← checked .answered) high)
