@@ -2,17 +2,17 @@
 -- Assumes nothing.
 use mathlib.Core.Path.{_≡_, refl, sym, ap, ap₂, _∙_, subst}
 use mathlib.Core.Logic.{_↔_, _≢_, _⊎_, inl, inr}
-use mathlib.Core.Bool.{Bool, true, false, not, cond, true≢false, false≢true, _&&_, _||_}
+use mathlib.Core.Bool.{Bool, true, false, not, cond, false≢true, _&&_, _||_}
 use mathlib.Core.List.{List, [], _∷_}
 use mathlib.Core.Option.{Option, some, none, Option·some-injective, Option·none-ne-some, Option·some-ne-none}
 use Prim.Native.Nat.{ℕ, zero, suc, _≤_, _<_}
-use native.Mathlib.Nat.{le-antisymm, lt-of-not-le, not-le-of-lt}
+use native.Mathlib.Nat.{lt-of-not-le, not-le-of-lt}
 use native.Mathlib.Omega.{arith}
 use lib.Dec.{T, eqb, leb, eqb→eq, eqb-refl, leb→le, le→leb}
 use Rattle.rules.specs.Places.{Bytes}
 use Rattle.rules.specs.Digest.{Row}
 use Rattle.rules.specs.Sets.{rows, find, rowOf}
-use Rattle.rules.proofs.SetLaws.{find-next, find-end}
+use Rattle.rules.proofs.SetLaws.{find-next}
 use Rattle.desk.specs.Answers.{number, Refusals, applies, smallest, same, missing, fails, settled}
 use Rattle.desk.specs.Table.{Given, none-applies, smallest-applies, Under, Unlisted, lines}
 use Rattle.desk.specs.declared.answers.Answer.{Answer}

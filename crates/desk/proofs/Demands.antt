@@ -3,36 +3,36 @@
 -- Assumes nothing.
 use mathlib.Core.Path.{_≡_, refl, sym, ap, ap₂, _∙_, subst}
 use mathlib.Core.Logic.{_↔_, Iff·trans, _≢_, _⊎_, inl, inr}
-use mathlib.Core.Bool.{Bool, true, false, not, cond, _&&_, _||_}
-use mathlib.Core.List.{List, [], _∷_}
+use mathlib.Core.Bool.{true, _&&_, _||_}
+use mathlib.Core.List.{List, []}
 use mathlib.Core.Option.{Option, some, none}
 use Prim.Native.Nat.{ℕ, zero, suc, _+_, _*_, _≤_, _<_}
 use native.Mathlib.Omega.{arith}
-use lib.Dec.{eqb, leb}
+use lib.Dec.{eqb}
 use lib.ListN.{length}
 use Rattle.rules.specs.Places.{Bytes}
-use Rattle.rules.specs.Calls.{F, of}
-use Rattle.rules.specs.Chains.{chains, chainDigits}
-use Rattle.rules.specs.Digest.{Row, Legal}
+use Rattle.rules.specs.Calls.{F, of, Family}
+use Rattle.rules.specs.Chains.{chains, checksum, chainDigits}
+use Rattle.rules.specs.Digest.{Row, Legal, Pointed, pointed}
 use Rattle.rules.specs.Keys.{piece, publicKey, secretKey}
-use Rattle.rules.specs.Seal.{frame, sealOf, part}
+use Rattle.rules.specs.Seal.{frame, digestOf, sealOf, part}
 use Rattle.rules.specs.Check.{checkedRoot, Accepted}
-use Rattle.rules.specs.Findings.{OneOfThree}
-use Rattle.rules.specs.Counts.{count, cost, fCalls}
+use Rattle.rules.specs.Findings.{checkedValue, OneOfThree}
+use Rattle.rules.specs.Counts.{count, cost, stepsOf, fCalls}
 use Rattle.rules.specs.Sets.{rows, rowOf}
 use Rattle.rules.proofs.KeyLaws.{publicKey-long}
 use Rattle.rules.proofs.Accepts.{accepts}
 use Rattle.rules.proofs.OneOfThree.{one-of-three}
 use Rattle.rules.proofs.CountLaws.{F-calls}
-use Rattle.rules.proofs.CostLaws.{F-least, F-greatest}
+use Rattle.rules.proofs.CostLaws.{value-cost, F-least, F-greatest}
 use Rattle.rules.proofs.SetLaws.{rowOf-legal}
 use Rattle.points.specs.Ready.{familyFor}
-use Rattle.desk.specs.Answers.{number, Refusals, applies, smallest, missing, fails, messageFits, messageLimit, same, settled}
-use Rattle.desk.specs.Keys.{keysRefusals, keysAnswer, KeysMade}
-use Rattle.desk.specs.Seals.{sealRefusals, sealAnswer, Sealed}
-use Rattle.desk.specs.Checks.{recomputed, checkRefusals, checkAnswer, checkCalls, Checked}
+use Rattle.desk.specs.Answers.{number, Refusals, applies, smallest, messageLimit, same}
+use Rattle.desk.specs.Keys.{keysRefusals, KeysMade}
+use Rattle.desk.specs.Seals.{sealRefusals, Sealed}
+use Rattle.desk.specs.Checks.{checkRefusals, checkAnswer, checkCalls, Checked}
 use Rattle.desk.specs.Parts.{partRefusals, partAnswer, partGiven}
-use Rattle.desk.specs.Digits.{digitsRefusals, digitsAnswer, DigitsRead}
+use Rattle.desk.specs.Digits.{digitsRefusals, DigitsRead}
 use Rattle.desk.specs.Table.{Given, Under, Unlisted, SeedsLong, KeysLong, SealInputsLong, Fitting, SameRoot, keysLine, sealLine, checkLine, partLine, digitsLine}
 use Rattle.desk.specs.declared.answers.Answer.{Answer}
 use Rattle.desk.specs.declared.checking.Verdict.{Verdict}
@@ -347,6 +347,32 @@ single-digits set value digits a b p q one other =
 
 -- ==== "The check also reports how many F calls it made"
 
+module _ (r : Row) (f : Family (r .n) (r .m)) where
+  -- What the values of the first layers cost, each "15·(c div 16 + c div 256 + 3), c its checksum".
+  unfoldable pub costsOf : (pkSeed : Bytes) (at : Pointed) (seal : Bytes) (layers : ℕ) → ℕ
+  costsOf pkSeed at seal zero = 0
+  costsOf pkSeed at seal (suc j) =
+      costsOf pkSeed at seal j + cost (checksum (r .n) (checkedValue r f pkSeed at seal j))
+
+  steps-cost : Legal r → (pkSeed : Bytes) (at : Pointed) (seal : Bytes) (j : ℕ)
+      → stepsOf r f pkSeed at seal j ≡ costsOf pkSeed at seal j
+  unfolding stepsOf costsOf
+  steps-cost legal pkSeed at seal zero = refl
+  steps-cost legal pkSeed at seal (suc j) =
+      ap₂ _+_ (steps-cost legal pkSeed at seal j)
+      (value-cost (r .n) (legal .checksum-fits) (checkedValue r f pkSeed at seal j))
+
+  -- The F calls of a check by the checksums of the values that it walks from.
+  unfoldable pub callsByCost : (public M seal : Bytes) → ℕ
+  callsByCost public M seal =
+      let D : Bytes = digestOf r f (part r 0 seal) (piece (r .n) 0 public) (piece (r .n) 1 public) M .result in
+      r .k + costsOf (piece (r .n) 0 public) (pointed r D) seal (r .d)
+
+  by-cost : Legal r → (public M seal : Bytes) → fCalls r f public M seal ≡ callsByCost public M seal
+  unfolding fCalls callsByCost
+  by-cost legal public M seal =
+      ap (λ (x : ℕ). r .k + x) (steps-cost legal (piece (r .n) 0 public) _ seal (r .d))
+
 module _ (set : ℕ) (public message seal : Bytes) (v : Verdict)
     (checked : Checked (rowOf set) public message seal v) where
   calls-under : (r : Row) → rowOf set ≡ some r → (number (v .answer) ≡ 0) ⊎ (number (v .answer) ≡ 5)
@@ -359,27 +385,26 @@ module _ (set : ℕ) (public message seal : Bytes) (v : Verdict)
       answer = checked .answered ∙ ap (λ (o : Option Row). checkAnswer o public message seal) e
 
   -- "equal to the number of F calls in the definition's list of calls: k + the sum over all layers and chains of
-  -- (15 - digit)": with answers 0 and 5. And the least and the greatest number, by the costs of one value.
+  -- (15 - digit)": with answers 0 and 5. The same by checksums, and the least and the greatest number.
   pub calls-counted : (number (v .answer) ≡ 0) ⊎ (number (v .answer) ≡ 5)
       → Under (rowOf set) (λ r.
       (v .calls ≡ count (of F) (checkedRoot r (familyFor r) public (frame message) seal .calls))
       × ((v .calls ≡ fCalls r (familyFor r) public (frame message) seal)
-      × ((r .k + 45 * r .d ≤ v .calls) × (v .calls ≤ r .k + cost (30 * r .n) * r .d))))
+      × ((v .calls ≡ callsByCost r (familyFor r) public (frame message) seal)
+      × ((r .k + 45 * r .d ≤ v .calls) × (v .calls ≤ r .k + cost (30 * r .n) * r .d)))))
   calls-counted walked =
       let (r, e) = known-row (rowOf set) (λ row. checkRefusals row public message seal) (number (v .answer))
       (checked .answered) refl (not-one walked) in
       let legal = rowOf-legal set r e .1 in
       let listed = calls-under r e walked in
       let summed = listed ∙ F-calls r (familyFor r) legal public (frame message) seal in
+      let costed = summed ∙ by-cost r (familyFor r) legal public (frame message) seal in
+      let least : r .k + 45 * r .d ≤ v .calls = omega (arith, summed, F-least r legal (familyFor r) public (frame message) seal) in
+      let greatest : v .calls ≤ r .k + cost (30 * r .n) * r .d = omega (arith, summed, F-greatest r legal (familyFor r) public (frame message) seal) in
       record {
         known = r;
         found = e;
-        holds = (
-          listed,
-          (summed,
-          (omega (arith, summed, F-least r legal (familyFor r) public (frame message) seal),
-          omega (arith, summed, F-greatest r legal (familyFor r) public (frame message) seal))),
-        );
+        holds = (listed, (summed, (costed, (least, greatest))));
       }
     where
       not-one : (number (v .answer) ≡ 0) ⊎ (number (v .answer) ≡ 5) → number (v .answer) ≢ 1
