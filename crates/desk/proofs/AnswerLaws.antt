@@ -25,6 +25,7 @@ pub record Tells (b : Bool) (P : Type 0) : Type 0 where
   pub told : b ≡ true → P
   pub tell : P → b ≡ true
 
+-- The two ways to say that a test passed.
 holds : (b : Bool) → T b → b ≡ true
 holds true t = refl
 holds false t = absurd t
@@ -32,6 +33,7 @@ holds false t = absurd t
 test : (b : Bool) → b ≡ true → T b
 test b e = subst T (sym e) tt
 
+-- What the tests of numbers tell, constants, and joined tests.
 pub eqb-tells : (m n : ℕ) → Tells (eqb m n) (m ≡ n)
 eqb-tells m n = record {
   told = λ e. eqb→eq m n (test (eqb m n) e);
@@ -101,6 +103,7 @@ same-tells x y = record { told = same→eq x y; tell = λ e. subst (λ (z : Byte
 
 -- ---- Tests of a set's row
 
+-- Whether there is a row.
 pub missing-tells : (row : Option Row) → Tells (missing row) (row ≡ none)
 missing-tells none = record { told = λ e. refl; tell = λ e. refl }
 missing-tells (some r) =
@@ -111,7 +114,8 @@ pub at-row : (row : Option Row) (P : Row → Type 0) (r : Row) → row ≡ some 
 at-row row P r e u = subst P (Option·some-injective (u .known) r (sym (u .found) ∙ e)) (u .holds)
 
 -- What follows for the row found.
-pub mapped : (row : Option Row) (P Q : Row → Type 0) → ((r : Row) → row ≡ some r → P r → Q r) → Under row P → Under row Q
+pub mapped : (row : Option Row) (P Q : Row → Type 0) → ((r : Row) → row ≡ some r → P r → Q r)
+    → Under row P → Under row Q
 mapped row P Q f u = record { known = u .known; found = u .found; holds = f (u .known) (u .found) (u .holds) }
 
 -- A known set fails a test exactly when the failure holds of the row found.
@@ -135,7 +139,10 @@ find-none : (set : ℕ) (rs : List Row) → (find set rs ≡ none) ↔ Unlisted 
 unfolding find Unlisted
 find-none set [] = (λ e. tt, λ u. refl)
 find-none set (q ∷ rs) =
-    (λ e. by-test (eqb set (q .number)) refl e (find-none set rs .0), λ u. find-next set q rs (u .0) ∙ find-none set rs .1 (u .1))
+    let rest = find-none set rs in (
+      λ e. by-test (eqb set (q .number)) refl e (rest .0),
+      λ u. find-next set q rs (u .0) ∙ rest .1 (u .1),
+    )
   where
     by-test : (b : Bool) → eqb set (q .number) ≡ b → cond b (some q) (find set rs) ≡ none
         → (find set rs ≡ none → Unlisted set rs) → (set ≢ q .number) × Unlisted set rs
@@ -246,8 +253,12 @@ module _ (r : Refusals) (one two three four five six : Type 0)
   lines-tell (suc (suc (suc (suc (suc (suc zero)))))) = (t6 .told, t6 .tell)
   lines-tell (suc (suc (suc (suc (suc (suc (suc k))))))) = (false≢true, λ z. absurd z)
 
+  -- An answer with their number is the one that the lines give.
   pub answer-given : (n : ℕ) → n ≡ smallest r → (c : ℕ) → (n ≡ c) ↔ Given (lines one two three four five six) c
-  answer-given n e c = (λ q. subst (Given line) (sym e ∙ q) by-lines, λ g. e ∙ one-given line (λ z. z) (smallest r) c by-lines g)
+  answer-given n e c = (
+    λ q. subst (Given line) (sym e ∙ q) by-lines,
+    λ g. e ∙ one-given line (λ z. z) (smallest r) c by-lines g,
+  )
     where
       line : ℕ → Type 0
       line = lines one two three four five six
@@ -268,6 +279,7 @@ refusedBy lengths message room root part = record {
   no-part = not part;
 }
 
+-- The smallest number is 0 exactly when all tests pass.
 none-fails : (a b c d e : Bool) → Tells (eqb (smallest (refusedBy a b c d e)) 0) ((a && (b && (c && (d && e)))) ≡ true)
 unfolding smallest
 none-fails true true true true true = record { told = λ e. refl; tell = λ e. refl }

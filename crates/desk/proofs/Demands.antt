@@ -51,7 +51,7 @@ given r c = (
     line : ℕ → Type 0
     line k = applies r k ≡ true
 
--- Line 1 of the table applies exactly when no set has the number.
+-- Line 1 of the table applies exactly when the set number is none of the table of sets.
 pub unknown-set : (set : ℕ) → (rowOf set ≡ none) ↔ Unlisted set rows
 unknown-set = no-row
 
@@ -108,6 +108,7 @@ module _ (set : ℕ) (skSeed skPrf pkSeed public secret : Bytes) (a : Answer) (p
 
 module _ (set : ℕ) (secret message random out : Bytes) (a : Answer) (out-after : Bytes)
     (sealed : Sealed (rowOf set) secret message random out a out-after) where
+  -- "gives a numbered refusal exactly when the paper says so"
   pub seal-answer : (c : ℕ) → (number a ≡ c) ↔ Given (sealLine (rowOf set) secret message random out) c
   seal-answer =
       answer-given (sealRefusals (rowOf set) secret message random out) _ _ _ _ _ _ (missing-tells (rowOf set))
@@ -116,6 +117,7 @@ module _ (set : ℕ) (secret message random out : Bytes) (a : Answer) (out-after
       (fails-not (rowOf set) _ (λ r. length out ≡ r .sealBytes) (λ r. eqb-tells (length out) (r .sealBytes)))
       never-tells never-tells (number a) (sealed .answered)
 
+  -- A seal is written exactly when the set is known, each length is the set's and the message is within the limit.
   pub seal-done : (number a ≡ 0) ↔ Under (rowOf set) (λ r.
       SealInputsLong secret random r × (Fitting message × (length out ≡ r .sealBytes)))
   seal-done =
@@ -125,12 +127,14 @@ module _ (set : ℕ) (secret message random out : Bytes) (a : Answer) (out-after
       (eqb-tells (length out) (r .sealBytes)) always-tells always-tells)
       (λ p. (p .0, (p .1 .0, p .1 .1 .0)), λ q. (q .0, (q .1 .0, (q .1 .1, (tt, tt))))))
 
+  -- "A refusal changes no byte of any buffer."
   pub seal-kept : number a ≢ 0 → out-after ≡ out
   seal-kept refused =
       sealed .out-is ∙ settled-kept _ (rowOf set) _ out (λ z. refused (sealed .answered ∙ z))
 
 -- ---- Checking, which is lent nothing to write to
 
+-- The test of the roots tells whether they are the same.
 root-tells : (public message seal : Bytes) (r : Row)
     → Tells (same (checkedRoot r (familyFor r) public (frame message) seal .result) (piece (r .n) 1 public))
     (SameRoot public message seal r)
@@ -139,6 +143,7 @@ root-tells public message seal r =
 
 module _ (set : ℕ) (public message seal : Bytes) (v : Verdict)
     (checked : Checked (rowOf set) public message seal v) where
+  -- "gives a numbered refusal exactly when the paper says so"; when it is 0, `accepted-exactly` says.
   pub check-answer : (c : ℕ) → (number (v .answer) ≡ c) ↔ Given (checkLine (rowOf set) public message seal) c
   check-answer =
       answer-given (checkRefusals (rowOf set) public message seal) _ _ _ _ _ _ (missing-tells (rowOf set))
@@ -152,12 +157,14 @@ module _ (set : ℕ) (public message seal : Bytes) (v : Verdict)
 
 module _ (set : ℕ) (seal : Bytes) (k : ℕ) (a : Answer) (given-part : Bytes)
     (answered : number a ≡ partAnswer (rowOf set) seal k) (read : given-part ≡ partGiven (rowOf set) seal k) where
+  -- "gives a numbered refusal exactly when the paper says so"
   pub part-answer : (c : ℕ) → (number a ≡ c) ↔ Given (partLine (rowOf set) seal k) c
   part-answer =
       answer-given (partRefusals (rowOf set) seal k) _ _ _ _ _ _ (missing-tells (rowOf set)) never-tells never-tells
       (fails-not (rowOf set) _ (λ r. length seal ≡ r .sealBytes) (λ r. eqb-tells (length seal) (r .sealBytes)))
       never-tells (fails-tells (rowOf set) _ (λ r. r .d + 1 < k) (λ r. above-tells k (r .d + 1))) (number a) answered
 
+  -- A part is handed out exactly when the set is known, the seal has its length and the part is one of 0 to d + 1.
   pub part-done : (number a ≡ 0) ↔ Under (rowOf set) (λ r. (length seal ≡ r .sealBytes) × (k ≤ r .d + 1))
   part-done =
       done-when (rowOf set) (λ row. partRefusals row seal k) (number a) answered refl
@@ -166,7 +173,7 @@ module _ (set : ℕ) (seal : Bytes) (k : ℕ) (a : Answer) (given-part : Bytes)
       always-tells (leb-tells k (r .d + 1)))
       (λ p. (p .1 .1 .0, p .1 .1 .1 .1), λ q. (tt, (tt, (q .0, (tt, q .1))))))
 
-  -- "part reading returns an empty part with every refusal"
+  -- "Part reading returns an empty part with every refusal"
   pub part-empty : number a ≢ 0 → given-part ≡ []
   part-empty refused = read ∙ settled-kept _ (rowOf set) _ [] (λ z. refused (answered ∙ z))
 
@@ -174,6 +181,7 @@ module _ (set : ℕ) (seal : Bytes) (k : ℕ) (a : Answer) (given-part : Bytes)
 
 module _ (set : ℕ) (value : Bytes) (digits : List ℕ) (a : Answer) (digits-after : List ℕ)
     (read : DigitsRead (rowOf set) value digits a digits-after) where
+  -- "gives a numbered refusal exactly when the paper says so"
   pub digits-answer : (c : ℕ) → (number a ≡ c) ↔ Given (digitsLine (rowOf set) value digits) c
   digits-answer =
       answer-given (digitsRefusals (rowOf set) value digits) _ _ _ _ _ _ (missing-tells (rowOf set))
@@ -181,6 +189,7 @@ module _ (set : ℕ) (value : Bytes) (digits : List ℕ) (a : Answer) (digits-af
       (fails-not (rowOf set) _ (λ r. length digits ≡ chains (r .n)) (λ r. eqb-tells (length digits) (chains (r .n))))
       never-tells never-tells (number a) (read .answered)
 
+  -- Digits are written exactly when the set is known and each length is the set's.
   pub digits-done : (number a ≡ 0) ↔ Under (rowOf set) (λ r.
       (length value ≡ r .n) × (length digits ≡ chains (r .n)))
   digits-done =
@@ -190,6 +199,7 @@ module _ (set : ℕ) (value : Bytes) (digits : List ℕ) (a : Answer) (digits-af
       (eqb-tells (length digits) (chains (r .n))) always-tells always-tells)
       (λ p. (p .0, p .1 .1 .0), λ q. (q .0, (tt, (q .1, (tt, tt))))))
 
+  -- "A refusal changes no byte of any buffer."
   pub digits-kept : number a ≢ 0 → digits-after ≡ digits
   digits-kept refused =
       read .digits-are ∙ settled-kept _ (rowOf set) _ digits (λ z. refused (read .answered ∙ z))
@@ -258,9 +268,11 @@ module _ (set : ℕ) (skSeed skPrf pkSeed public-was secret-was : Bytes) (a : An
   Pair r =
       (public ≡ publicKey r (familyFor r) skSeed pkSeed) × (secret ≡ secretKey r (familyFor r) skSeed skPrf pkSeed)
 
+  -- It is the rules' for the set.
   keys : Under (rowOf set) Pair
   keys = keys-are set skSeed skPrf pkSeed public-was secret-was a public secret made done
 
+  -- The seeds that a key pair was made from have the set's length.
   seeds-long : (r : Row) → rowOf set ≡ some r → SeedsLong skSeed skPrf pkSeed r
   seeds-long r e =
       at-row (rowOf set) (λ q. SeedsLong skSeed skPrf pkSeed q × KeysLong public-was secret-was q) r e
@@ -354,6 +366,7 @@ module _ (r : Row) (f : Family (r .n) (r .m)) where
   costsOf pkSeed at seal (suc j) =
       costsOf pkSeed at seal j + cost (checksum (r .n) (checkedValue r f pkSeed at seal j))
 
+  -- It is the sum of (15 - digit).
   steps-cost : Legal r → (pkSeed : Bytes) (at : Pointed) (seal : Bytes) (j : ℕ)
       → stepsOf r f pkSeed at seal j ≡ costsOf pkSeed at seal j
   unfolding stepsOf costsOf
@@ -368,6 +381,7 @@ module _ (r : Row) (f : Family (r .n) (r .m)) where
       let D : Bytes = digestOf r f (part r 0 seal) (piece (r .n) 0 public) (piece (r .n) 1 public) M .result in
       r .k + costsOf (piece (r .n) 0 public) (pointed r D) seal (r .d)
 
+  -- It is the paper's number.
   by-cost : Legal r → (public M seal : Bytes) → fCalls r f public M seal ≡ callsByCost public M seal
   unfolding fCalls callsByCost
   by-cost legal public M seal =
@@ -375,6 +389,7 @@ module _ (r : Row) (f : Family (r .n) (r .m)) where
 
 module _ (set : ℕ) (public message seal : Bytes) (v : Verdict)
     (checked : Checked (rowOf set) public message seal v) where
+  -- The number in the list, with answers 0 and 5.
   calls-under : (r : Row) → rowOf set ≡ some r → (number (v .answer) ≡ 0) ⊎ (number (v .answer) ≡ 5)
       → v .calls ≡ count (of F) (checkedRoot r (familyFor r) public (frame message) seal .calls)
   calls-under r e walked =
@@ -399,8 +414,8 @@ module _ (set : ℕ) (public message seal : Bytes) (v : Verdict)
       let listed = calls-under r e walked in
       let summed = listed ∙ F-calls r (familyFor r) legal public (frame message) seal in
       let costed = summed ∙ by-cost r (familyFor r) legal public (frame message) seal in
-      let least : r .k + 45 * r .d ≤ v .calls = omega (arith, summed, F-least r legal (familyFor r) public (frame message) seal) in
-      let greatest : v .calls ≤ r .k + cost (30 * r .n) * r .d = omega (arith, summed, F-greatest r legal (familyFor r) public (frame message) seal) in
+      let least = rw (← summed) at (F-least r legal (familyFor r) public (frame message) seal) in
+      let greatest = rw (← summed) at (F-greatest r legal (familyFor r) public (frame message) seal) in
       record {
         known = r;
         found = e;
@@ -415,4 +430,5 @@ module _ (set : ℕ) (public message seal : Bytes) (v : Verdict)
   pub calls-none : 0 < number (v .answer) → number (v .answer) < 5 → v .calls ≡ 0
   calls-none low high =
       checked .counted
-      ∙ idle-calls (checkAnswer (rowOf set) public message seal) _ (rw (← checked .answered) low) (rw (← checked .answered) high)
+      ∙ idle-calls (checkAnswer (rowOf set) public message seal) _ (rw (checked .answered) at low)
+      (rw (checked .answered) at high)
