@@ -155,8 +155,7 @@ module _ (set : ℕ) (public message seal : Bytes) (v : Verdict)
 
 -- ---- Part reading: its answer, and its part
 
-module _ (set : ℕ) (seal : Bytes) (k : ℕ) (a : Answer) (given-part : Bytes)
-    (answered : number a ≡ partAnswer (rowOf set) seal k) (read : given-part ≡ partGiven (rowOf set) seal k) where
+module _ (set : ℕ) (seal : Bytes) (k : ℕ) (a : Answer) (answered : number a ≡ partAnswer (rowOf set) seal k) where
   -- "gives a numbered refusal exactly when the paper says so"
   pub part-answer : (c : ℕ) → (number a ≡ c) ↔ Given (partLine (rowOf set) seal k) c
   part-answer =
@@ -174,8 +173,9 @@ module _ (set : ℕ) (seal : Bytes) (k : ℕ) (a : Answer) (given-part : Bytes)
       (λ p. (p .1 .1 .0, p .1 .1 .1 .1), λ q. (tt, (tt, (q .0, (tt, q .1))))))
 
   -- "Part reading returns an empty part with every refusal"
-  pub part-empty : number a ≢ 0 → given-part ≡ []
-  part-empty refused = read ∙ settled-kept _ (rowOf set) _ [] (λ z. refused (answered ∙ z))
+  pub part-empty : (given-part : Bytes) → given-part ≡ partGiven (rowOf set) seal k → number a ≢ 0 → given-part ≡ []
+  part-empty given-part read refused =
+      read ∙ settled-kept _ (rowOf set) _ [] (λ z. refused (answered ∙ z))
 
 -- ---- Chain digits
 
@@ -235,7 +235,7 @@ pub part-is : (set : ℕ) (seal : Bytes) (k : ℕ) (a : Answer) (given-part : By
 part-is set seal k a given-part answered read done =
     mapped (rowOf set) _ _
     (λ r e legal. read ∙ settled-made _ (rowOf set) _ [] r (sym answered ∙ done) e)
-    (part-done set seal k a given-part answered read .0 done)
+    (part-done set seal k a answered .0 done)
 
 pub digits-are : (set : ℕ) (value : Bytes) (digits : List ℕ) (a : Answer) (digits-after : List ℕ)
     → DigitsRead (rowOf set) value digits a digits-after → number a ≡ 0
