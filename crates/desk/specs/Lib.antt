@@ -5,3 +5,4 @@ pub mod Seals
 pub mod Checks
 pub mod Parts
 pub mod Digits
+pub mod Table
