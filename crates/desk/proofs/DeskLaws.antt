@@ -17,7 +17,7 @@ use Rattle.calls.specs.declared.rows.Row as code
 use Rattle.calls.specs.declared.rows.Found.{Found}
 use Rattle.calls.specs.declared.rows.Found.the-variants.{Is, Unknown}
 use Rattle.rules.specs.Places.{Bytes}
-use Rattle.desk.specs.Answers.{Refusals, smallest, tested, settled, same}
+use Rattle.desk.specs.Answers.{Refusals, smallest, tested, same}
 
 -- ---- The tests
 
@@ -74,19 +74,6 @@ both-pass false b e = let z : _≡_ {A = Bool} false true = e in absurd (false-t
   where
     false-true : _≡_ {A = Bool} false true → ⊥
     false-true q = suc-ne-zero 0 (sym (ap (λ (x : Bool). cond x 1 0) q))
-
--- ---- What is held afterwards
-
-pub made-here : {A : Type 0} (r : Row) (made : Row → List A) (was : List A) {answer : ℕ} → answer ≡ 0
-    → settled answer (some r) made was ≡ made r
-unfolding settled
-made-here r made was e = rw e
-
-pub kept : {A : Type 0} (row : Option Row) (made : Row → List A) (was : List A) (answer : ℕ) → (answer ≡ 0 → ⊥)
-    → settled answer row made was ≡ was
-unfolding settled
-kept row made was zero h = absurd (h refl)
-kept row made was (suc k) h = refl
 
 -- ---- Strings compared byte by byte
 

@@ -1,5 +1,5 @@
 -- Laws on plain values that the code's proofs apply, and the demands.
 pub mod DeskLaws
-pub mod OperationLaws
 pub mod AnswerLaws
+pub mod OperationLaws
 pub mod Demands

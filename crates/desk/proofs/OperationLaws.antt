@@ -30,7 +30,8 @@ use Rattle.desk.specs.Digits.{DigitsRead, digitsAnswer}
 use Rattle.desk.specs.declared.answers.Answer.{Answer}
 use Rattle.desk.specs.declared.answers.Answer.the-variants.{Done, UnknownSet, OtherRoot}
 use Rattle.desk.specs.declared.checking.Verdict.{Verdict}
-use Rattle.desk.proofs.DeskLaws.{passed, both-pass, made-here, kept, refused-walk, walked}
+use Rattle.desk.proofs.DeskLaws.{passed, both-pass, refused-walk, walked}
+use Rattle.desk.proofs.AnswerLaws.{settled-made, settled-kept}
 
 -- ---- A promise under a row is the promise under the same row by another name
 
@@ -70,16 +71,16 @@ module _ (s p q public secret : Bytes) where
         → KeysMade (some r) s p q public secret Done public′ secret′
     keys-done z e f = record {
       answered = sym z;
-      public-is = e ∙ sym (made-here r (λ r. publicKey r (familyFor r) s q) public z);
-      secret-is = f ∙ sym (made-here r (λ r. secretKey r (familyFor r) s p q) secret z);
+      public-is = e ∙ sym (settled-made _ (some r) (λ r. publicKey r (familyFor r) s q) public r z refl);
+      secret-is = f ∙ sym (settled-made _ (some r) (λ r. secretKey r (familyFor r) s p q) secret r z refl);
     }
 
     pub keys-refused : {answer : Answer} → number answer ≡ keysAnswer (some r) s p q public secret
         → (keysAnswer (some r) s p q public secret ≡ 0 → ⊥) → KeysMade (some r) s p q public secret answer public secret
     keys-refused e h = record {
       answered = e;
-      public-is = sym (kept (some r) (λ r. publicKey r (familyFor r) s q) public _ h);
-      secret-is = sym (kept (some r) (λ r. secretKey r (familyFor r) s p q) secret _ h);
+      public-is = sym (settled-kept _ (some r) (λ r. publicKey r (familyFor r) s q) public h);
+      secret-is = sym (settled-kept _ (some r) (λ r. secretKey r (familyFor r) s p q) secret h);
     }
 
     -- Where the answer is 0 the lengths are right.
@@ -118,14 +119,14 @@ module _ (secret message random out : Bytes) where
         → Sealed (some r) secret message random out Done out′
     seal-done z e = record {
       answered = sym z;
-      out-is = e ∙ sym (made-here r (λ r. sealOf r (familyFor r) secret random (frame message) .result) out z);
+      out-is = e ∙ sym (settled-made _ (some r) (λ r. sealOf r (familyFor r) secret random (frame message) .result) out r z refl);
     }
 
     pub seal-refused : {answer : Answer} → number answer ≡ sealAnswer (some r) secret message random out
         → (sealAnswer (some r) secret message random out ≡ 0 → ⊥) → Sealed (some r) secret message random out answer out
     seal-refused e h = record {
       answered = e;
-      out-is = sym (kept (some r) (λ r. sealOf r (familyFor r) secret random (frame message) .result) out _ h);
+      out-is = sym (settled-kept _ (some r) (λ r. sealOf r (familyFor r) secret random (frame message) .result) out h);
     }
 
     pub seal-long : sealAnswer (some r) secret message random out ≡ 0
@@ -195,13 +196,13 @@ module _ (seal : Bytes) (k : ℕ) where
 
   module _ (r : Row) where
     pub part-refused : (partAnswer (some r) seal k ≡ 0 → ⊥) → [] ≡ partGiven (some r) seal k
-    part-refused h = sym (kept (some r) (λ r. part r k seal) [] _ h)
+    part-refused h = sym (settled-kept _ (some r) (λ r. part r k seal) [] h)
 
     pub part-read : partAnswer (some r) seal k ≡ 0
         → take (partStart r k + partLength r k - partStart r k) (drop (partStart r k) seal) ≡ partGiven (some r) seal k
     unfolding part
     part-read z =
-        lent (partStart r k) (partLength r k) seal ∙ sym (made-here r (λ r. part r k seal) [] z)
+        lent (partStart r k) (partLength r k) seal ∙ sym (settled-made _ (some r) (λ r. part r k seal) [] r z refl)
 
     pub part-there : partAnswer (some r) seal k ≡ 0 → (length seal ≡ r .sealBytes) × (k ≤ r .d + 1)
     part-there z =
@@ -247,12 +248,12 @@ module _ (value : Bytes) (digits : List ℕ) where
     digits-done z e = record {
       answered = sym z;
       digits-are = e ∙ ap (λ (n : ℕ). chainDigits n value) (digits-long z .0)
-          ∙ sym (made-here r (λ r. chainDigits (r .n) value) digits z);
+          ∙ sym (settled-made _ (some r) (λ r. chainDigits (r .n) value) digits r z refl);
     }
 
     pub digits-refused : {answer : Answer} → number answer ≡ digitsAnswer (some r) value digits
         → (digitsAnswer (some r) value digits ≡ 0 → ⊥) → DigitsRead (some r) value digits answer digits
     digits-refused e h = record {
       answered = e;
-      digits-are = sym (kept (some r) (λ r. chainDigits (r .n) value) digits _ h);
+      digits-are = sym (settled-kept _ (some r) (λ r. chainDigits (r .n) value) digits h);
     }
