@@ -335,12 +335,12 @@ module _ (row : Option Row) (refusals : Option Row → Refusals) (n : ℕ) (answ
 -- ---- Buffers, and answers as numbers
 
 -- A buffer holds what is made where the answer is 0, and else what it held.
-pub settled-made : {A : Type 0} (n : ℕ) (row : Option Row) (made : Row → List A) (was : List A) (r : Row)
+pub settled-made : {A : Type 0} (n : ℕ) (row : Option Row) (made : Row → A) (was : A) (r : Row)
     → n ≡ 0 → row ≡ some r → settled n row made was ≡ made r
 unfolding settled
 settled-made n row made was r z e = ap₂ (λ (x : ℕ) (y : Option Row). settled x y made was) z e
 
-pub settled-kept : {A : Type 0} (n : ℕ) (row : Option Row) (made : Row → List A) (was : List A)
+pub settled-kept : {A : Type 0} (n : ℕ) (row : Option Row) (made : Row → A) (was : A)
     → n ≢ 0 → settled n row made was ≡ was
 unfolding settled
 settled-kept zero row made was refused = absurd (refused refl)

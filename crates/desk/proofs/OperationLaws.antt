@@ -25,7 +25,7 @@ use Rattle.desk.specs.Answers.{number, smallest, tested, settled, messag
 use Rattle.desk.specs.Keys.{KeysMade, keysAnswer}
 use Rattle.desk.specs.Seals.{Sealed, sealAnswer}
 use Rattle.desk.specs.Checks.{Checked, recomputed}
-use Rattle.desk.specs.Parts.{partAnswer, partGiven}
+use Rattle.desk.specs.Parts.{partAnswer, partGiven, startGiven, lengthGiven}
 use Rattle.desk.specs.Digits.{DigitsRead, digitsAnswer}
 use Rattle.desk.specs.declared.answers.Answer.{Answer}
 use Rattle.desk.specs.declared.answers.Answer.the-variants.{Done, UnknownSet, OtherRoot}
@@ -57,6 +57,11 @@ module _ {row other : Option Row} (e : row ≡ other) where
 
   pub part-by : (seal : Bytes) (k : ℕ) {x : Bytes} → x ≡ partGiven other seal k → x ≡ partGiven row seal k
   part-by seal k h = rw e h
+
+  pub place-by : (seal : Bytes) (k : ℕ) {start long : ℕ}
+      → (start ≡ startGiven other seal k) × (long ≡ lengthGiven other seal k)
+      → (start ≡ startGiven row seal k) × (long ≡ lengthGiven row seal k)
+  place-by seal k h = rw e h
 
 -- ---- Key making
 
@@ -194,6 +199,10 @@ module _ (seal : Bytes) (k : ℕ) where
   unfolding smallest settled
   part-unknown = (refl, refl)
 
+  pub place-unknown : (0 ≡ startGiven none seal k) × (0 ≡ lengthGiven none seal k)
+  unfolding smallest settled
+  place-unknown = (refl, refl)
+
   module _ (r : Row) where
     pub part-refused : (partAnswer (some r) seal k ≡ 0 → ⊥) → [] ≡ partGiven (some r) seal k
     part-refused h = sym (settled-kept _ (some r) (λ r. part r k seal) [] h)
@@ -203,6 +212,21 @@ module _ (seal : Bytes) (k : ℕ) where
     unfolding part
     part-read z =
         lent (partStart r k) (partLength r k) seal ∙ sym (settled-made _ (some r) (λ r. part r k seal) [] r z refl)
+
+    -- Where it lies.
+    pub place-refused : (partAnswer (some r) seal k ≡ 0 → ⊥)
+        → (0 ≡ startGiven (some r) seal k) × (0 ≡ lengthGiven (some r) seal k)
+    place-refused h = (
+      sym (settled-kept _ (some r) (λ r. partStart r k) 0 h),
+      sym (settled-kept _ (some r) (λ r. partLength r k) 0 h),
+    )
+
+    pub place-read : {start long : ℕ} → partAnswer (some r) seal k ≡ 0 → start ≡ partStart r k
+        → long ≡ partLength r k → (start ≡ startGiven (some r) seal k) × (long ≡ lengthGiven (some r) seal k)
+    place-read z e f = (
+      e ∙ sym (settled-made _ (some r) (λ r. partStart r k) 0 r z refl),
+      f ∙ sym (settled-made _ (some r) (λ r. partLength r k) 0 r z refl),
+    )
 
     pub part-there : partAnswer (some r) seal k ≡ 0 → (length seal ≡ r .sealBytes) × (k ≤ r .d + 1)
     part-there z =

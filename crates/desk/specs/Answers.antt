@@ -83,8 +83,8 @@ abbrev pub fails : Option Row → (test : Row → Bool) → Bool
 fails none test = false
 fails (some r) test = not (test r)
 
--- What a buffer holds afterwards: what is made under the set where the answer is 0, and else what it held.
-unfoldable pub settled : {A : Type 0} → (answer : ℕ) → Option Row → (made : Row → List A) (was : List A) → List A
+-- What is held or told afterwards: what the set makes of it where the answer is 0, and else what it was.
+unfoldable pub settled : {A : Type 0} → (answer : ℕ) → Option Row → (made : Row → A) (was : A) → A
 settled zero (some r) made was = made r
 settled zero none made was = was
 settled (suc _) row made was = was

@@ -9,7 +9,7 @@ use lib.Dec.{eqb, leb}
 use lib.ListN.{length}
 use Rattle.rules.specs.Places.{Bytes}
 use Rattle.rules.specs.Digest.{Row}
-use Rattle.rules.specs.Seal.{part}
+use Rattle.rules.specs.Seal.{partStart, partLength, part}
 use Rattle.desk.specs.Answers.{Refusals, smallest, missing, fails, settled}
 
 -- Under the row of the set, if it has one: a seal, and the part's number.
@@ -30,3 +30,10 @@ module _ (row : Option Row) (seal : Bytes) (number : ℕ) where
   -- Empty with every refusal.
   abbrev pub partGiven : Bytes
   partGiven = settled partAnswer row (λ r. part r number seal) []
+
+  -- Where the part lies: both 0 with every refusal.
+  abbrev pub startGiven : ℕ
+  startGiven = settled partAnswer row (λ r. partStart r number) 0
+
+  abbrev pub lengthGiven : ℕ
+  lengthGiven = settled partAnswer row (λ r. partLength r number) 0

@@ -4,4 +4,5 @@ pub mod checking;
 pub mod digit_reading;
 pub mod making;
 pub mod part_reading;
+pub mod round;
 pub mod sealing;

@@ -12,7 +12,7 @@ ghost use Rattle.rules.specs.Seal.{partStart, partLength};
 ghost use Rattle.calls.specs.Rows.{ruledRow};
 ghost use Rattle.points.specs.Ready.{Ready};
 ghost use Rattle.desk.specs.Answers.{number as numberOf};
-ghost use Rattle.desk.specs.Parts.{partAnswer, partGiven};
+ghost use Rattle.desk.specs.Parts.{partAnswer, partGiven, startGiven, lengthGiven};
 use crate::answers::Answer;
 use crate::answers::first_failed;
 use crate::answers::number_of;
@@ -107,5 +107,46 @@ pub fn part(set: u32, seal: &[u8], number: u32) -> &[u8]
     match found {
         Found::Is(row) => part_under(row, seal, number),
         Found::Unknown => &seal[0..0],
+    }
+}
+
+// Where a part lies in its seal.
+pub struct Place {
+    pub start: usize,
+    pub length: usize,
+}
+
+fn part_place_under(row: Row, seal: &[u8], number: u32) -> Place
+    requires { ⌜ Ready (ruledRow row) ⌝ }
+    ensures { λ r. ⌜ r .start ≡ startGiven (some (ruledRow row)) (now (seal .entry)) number ⌝ }
+    ensures { λ r. ⌜ r .length ≡ lengthGiven (some (ruledRow row)) (now (seal .entry)) number ⌝ }
+{
+    let answer = part_answer_under(row, seal, number);
+    if number_of(answer) != 0 {
+        return Place {
+            start: 0,
+            length: 0,
+        };
+    }
+    let start = part_start(row, number);
+    let length = part_length(row, number);
+    Place {
+        start: start,
+        length: length,
+    }
+}
+
+// Where the part of a seal lies; both numbers are 0 with every refusal.
+pub fn part_place(set: u32, seal: &[u8], number: u32) -> Place
+    ensures { λ r. ⌜ r .start ≡ startGiven (rowOf set) (now (seal .entry)) number ⌝ }
+    ensures { λ r. ⌜ r .length ≡ lengthGiven (rowOf set) (now (seal .entry)) number ⌝ }
+{
+    let found = find_row(set);
+    match found {
+        Found::Is(row) => part_place_under(row, seal, number),
+        Found::Unknown => Place {
+            start: 0,
+            length: 0,
+        },
     }
 }

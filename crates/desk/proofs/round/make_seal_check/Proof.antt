@@ -1,0 +1,14 @@
+-- A round is accepted by demand 2, from nothing but the three promises.
+-- Assumes nothing.
+use borrow.Author.Needs.{needs}
+use Rattle.desk.proofs.Demands.{own-seals-accepted}
+use Rattle.desk.proofs.round.make_seal_check.Statement.{statement}
+use Rattle.desk.proofs.round.make_seal_check.Tie as tie
+
+returns : tie.Need-returns
+returns c making-done sealing-done =
+    own-seals-accepted (c .before .before .before .before .before .before .before .before .before .before .before .before .before .before .before .before .before .before .before .before .before .before .before .args .set) _ _ _ _ _ _ _ _ (c .before .before .before .before .before .before .before .before .before .before .before .before .make-keys .ensures) making-done _ _ _ _ _
+    (c .before .before .before .before .before .seal .ensures) sealing-done _ (c .check .ensures)
+
+pub make-seal-check-spec : {M : Type 1} → statement M
+make-seal-check-spec = tie.close (tie.spec (λ c κs. search needs) (λ c κs. search needs) (λ c κs. search needs) (λ c. search needs) (λ c. search needs) (λ c. search needs) returns)
