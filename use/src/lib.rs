@@ -27,5 +27,5 @@ pub mod face;
 mod operations;
 
 pub use answer::Answer;
-pub use operations::{check, digits, make_keys, part, seal, Keys, Verdict};
+pub use operations::{check, digits, make_keys, part, part_range, seal, Keys, Verdict};
 pub use sets::{Set, MESSAGE_LIMIT, SETS};

@@ -2,6 +2,7 @@
 
 use crate::{face, Answer, Set};
 use std::fmt;
+use std::ops::Range;
 
 /// A key pair.
 #[derive(Clone, PartialEq, Eq)]
@@ -54,9 +55,14 @@ pub fn check(set: u32, public_key: &[u8], message: &[u8], seal: &[u8]) -> Verdic
 
 /// A part of a seal as it lies there: 0 is the randomizer, 1 the forest, 2 + j layer j.
 pub fn part(set: u32, seal: &[u8], number: u32) -> Result<&[u8], Answer> {
+    Ok(&seal[part_range(set, seal, number)?])
+}
+
+/// Where a part of a seal lies.
+pub fn part_range(set: u32, seal: &[u8], number: u32) -> Result<Range<usize>, Answer> {
     let (mut start, mut length) = (0, 0);
     done(face::part(set, seal, number, &mut start, &mut length))?;
-    Ok(&seal[start..][..length])
+    Ok(start..start + length)
 }
 
 /// The chain digits of a value, checksum digits last.
