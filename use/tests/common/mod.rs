@@ -6,6 +6,8 @@ pub mod fenced;
 
 pub mod paper;
 
+pub mod workplace;
+
 /// The seed of every test; each adds a number of its own.
 const SEED: u64 = 0x205;
 
