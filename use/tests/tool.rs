@@ -364,3 +364,16 @@ fn a_tour_without_a_folder() {
     let output = work.command("try").env("TMPDIR", work.at("none")).output().expect("the tool runs");
     assert_eq!(output.status.code(), Some(73));
 }
+
+/// What is said stays on one line and steers no terminal, whatever a file is called.
+#[test]
+fn odd_names_are_shown_plainly() {
+    let work = Workplace::sealed("odd_names_are_shown_plainly");
+    let odd = "\u{1b}[2J\nx";
+    for (line, status) in [("check --set 2 --public public m", 66), ("digits 00 --set", 64), ("", 64)] {
+        let output = work.command(line).arg(odd).output().expect("the tool runs");
+        let said = String::from_utf8(output.stderr).expect("text");
+        assert_eq!((output.status.code(), said.lines().count()), (Some(status), 1), "{said:?}");
+        assert!(!said.contains('\u{1b}'), "{said:?}");
+    }
+}

@@ -1,6 +1,6 @@
 //! Command lines: a command's options, flags and places.
 
-use crate::stop::Stop;
+use crate::stop::{shown, Stop};
 use skimdral::Set;
 use std::ffi::{OsStr, OsString};
 
@@ -47,7 +47,8 @@ impl Arguments {
     fn option(&mut self, shape: &Shape, text: &str, value: Option<&OsString>) -> Result<(), Stop> {
         let complaint = |line: &str| Stop::usage(format!("skimdral {}: {line}", shape.name));
         let known = shape.options.iter().find(|option| **option == text);
-        let option = known.ok_or_else(|| complaint(&format!("there is no option {text}; see --help")))?;
+        let option =
+            known.ok_or_else(|| complaint(&format!("there is no option {}; see --help", shown(OsStr::new(text)))))?;
         let value = value.ok_or_else(|| complaint(&format!("{option} wants a value")))?;
         if self.get(option).is_some() {
             return Err(complaint(&format!("{option} is given twice")));
@@ -90,9 +91,9 @@ impl Arguments {
     pub fn set(&self) -> Result<u32, Stop> {
         let text = self.need("--set")?;
         let named = || text.to_str().and_then(Set::named).map(|set| set.number);
-        number(text).or_else(named).ok_or_else(|| {
-            Stop::usage(format!("--set wants a number or a name like shake-128s, not {}", text.to_string_lossy()))
-        })
+        number(text)
+            .or_else(named)
+            .ok_or_else(|| Stop::usage(format!("--set wants a number or a name like shake-128s, not {}", shown(text))))
     }
 }
 

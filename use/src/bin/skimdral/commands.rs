@@ -4,7 +4,7 @@ use crate::arguments::{number, Arguments, Shape};
 use crate::input::{one_standard, read, STANDARD};
 use crate::output::{apart, permit, say, write, Draft, Readers};
 use crate::refusal::{explain, grouped, unknown_part, Lent};
-use crate::stop::Stop;
+use crate::stop::{shown, Stop};
 use crate::{help, tour};
 use skimdral::{Answer, Set, Verdict};
 use std::ffi::OsString;
@@ -46,7 +46,7 @@ pub fn run(words: &[OsString], out: &mut dyn Write) -> Result<Answer, Stop> {
     if name == "--help" || name == "-h" {
         return say(out, help::ALL.as_bytes()).map(|()| Answer::Done);
     }
-    let unknown = || Stop::usage(format!("there is no command {}; see skimdral --help", name.to_string_lossy()));
+    let unknown = || Stop::usage(format!("there is no command {}; see skimdral --help", shown(name)));
     let command = COMMANDS.iter().find(|command| command.shape.name == name).ok_or_else(unknown)?;
     let arguments = Arguments::sort(&command.shape, words)?;
     if arguments.help {

@@ -4,7 +4,7 @@
 //! put in place is taken back when the command fails after it, as when the second of two outputs can't be made.
 
 use crate::input::STANDARD;
-use crate::stop::Stop;
+use crate::stop::{shown, Stop};
 use std::ffi::OsStr;
 use std::fs::{self, File, OpenOptions};
 use std::io::{self, ErrorKind, Write};
@@ -40,7 +40,8 @@ pub fn apart(output: &OsStr, others: &[&OsStr]) -> Result<(), Stop> {
     let files = others.iter().filter(|other| **other != STANDARD && output != STANDARD);
     match files.map(Path::new).find(|other| same(path, other)) {
         Some(other) => {
-            Err(Stop::usage(format!("the output {} is the same file as {}", path.display(), other.display())))
+            let [output, other] = [path, other].map(|path| shown(path.as_os_str()));
+            Err(Stop::usage(format!("the output {output} is the same file as {other}")))
         }
         None => Ok(()),
     }
@@ -103,8 +104,8 @@ impl Draft {
         permit(self.target.as_os_str(), force)?;
         let placed = if force { self.replace() } else { self.place() };
         let published = placed.map_err(|reason| Stop::unwritable(&self.target, reason))?;
-        let synced = File::open(folder(&self.target)).and_then(|folder| folder.sync_all());
-        synced.map_err(|reason| Stop::unwritable(&self.target, reason))?;
+        // Not every file system syncs folders, and the file's own bytes are safe.
+        let _ = File::open(folder(&self.target)).and_then(|folder| folder.sync_all());
         Ok(published)
     }
 
@@ -120,16 +121,17 @@ impl Draft {
             true => Some(beside(&self.target, |path| rename_anew(&self.target, path))?.0),
             false => None,
         };
-        let published = Published { target: self.target.clone(), old, kept: false };
-        fs::rename(&self.temporary, &self.target)?;
-        Ok(published)
+        let renamed = fs::rename(&self.temporary, &self.target);
+        if let (Err(_), Some(old)) = (&renamed, &old) {
+            restore(old, &self.target);
+        }
+        renamed.map(|()| Published { target: self.target.clone(), old, kept: false })
     }
 }
 
 impl Drop for Draft {
     fn drop(&mut self) {
-        // Where it was renamed there is none.
-        let _ = fs::remove_file(&self.temporary);
+        remove(&self.temporary);
     }
 }
 
@@ -150,14 +152,24 @@ impl Published {
 /// Takes the output back, or lets go of what it replaced.
 impl Drop for Published {
     fn drop(&mut self) {
-        // A file that can't be removed or moved now has no better place to be reported.
-        let _ = match (&self.old, self.kept) {
-            (Some(old), true) => fs::remove_file(old),
-            (Some(old), false) => fs::rename(old, &self.target),
-            (None, true) => Ok(()),
-            (None, false) => fs::remove_file(&self.target),
-        };
+        match (&self.old, self.kept) {
+            (Some(old), true) => remove(old),
+            (Some(old), false) => restore(old, &self.target),
+            (None, true) => {}
+            (None, false) => remove(&self.target),
+        }
     }
+}
+
+/// Puts what was held back in its place. Renaming does nothing where both are links to one file.
+fn restore(old: &Path, target: &Path) {
+    let _ = fs::rename(old, target);
+    remove(old);
+}
+
+/// Removes a file, if it is there. One that can't be removed is found in no better way than by looking.
+fn remove(path: &Path) {
+    let _ = fs::remove_file(path);
 }
 
 /// Gives a file a new name, which must be free. The old one stays where the file system has links; where it has none,

@@ -29,12 +29,12 @@ impl Stop {
 
     /// The file can't be read, by the system's reason.
     pub fn unreadable(file: &OsStr, reason: &io::Error) -> Stop {
-        Stop { status: UNREADABLE, line: format!("{} can't be read: {reason}", Path::new(file).display()) }
+        Stop { status: UNREADABLE, line: format!("{} can't be read: {reason}", shown(file)) }
     }
 
     /// The file can't be made, by the system's reason or the tool's own.
     pub fn unwritable(file: &Path, reason: impl std::fmt::Display) -> Stop {
-        Stop { status: UNWRITABLE, line: format!("{} can't be made: {reason}", file.display()) }
+        Stop { status: UNWRITABLE, line: format!("{} can't be made: {reason}", shown(file.as_os_str())) }
     }
 
     /// The library's refusal, and what was wrong.
@@ -46,4 +46,9 @@ impl Stop {
     pub fn astray(line: impl Into<String>) -> Stop {
         Stop { status: ASTRAY, line: line.into() }
     }
+}
+
+/// A word of the command line as it may be shown: on one line, and with nothing that steers a terminal.
+pub fn shown(word: &OsStr) -> String {
+    word.to_string_lossy().chars().map(|c| if c.is_control() { '?' } else { c }).collect()
 }
