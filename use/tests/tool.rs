@@ -31,49 +31,51 @@ fn helps() {
     assert_eq!(work.run("-h").out, all.out);
 }
 
+/// Command lines that make no sense, on the files of `Workplace::sealed`.
+const BAD_USAGE: [&str; 37] = [
+    "unknown",
+    "keys --set 2 --seeds seeds --public p",
+    "keys --set 2 --seeds seeds --public p --secret -",
+    "keys --set 2 --seeds seeds --public p --secret p",
+    "keys --set 2 --seeds seeds --public p --secret ./p",
+    "keys --set 2 --seeds seeds --public seeds --secret x --force",
+    "keys --set 2 --seeds seeds --public p --secret seeds --force",
+    "keys --set 2 --seeds seeds --public p --secret x more",
+    "keys --set --seeds seeds --public p --secret x",
+    "seal --set 2 --secret secret m",
+    "seal --set 2 --secret secret m x y",
+    "seal --set 2 m x",
+    "seal --secret secret m x",
+    "seal --set 2 --secret secret --secret secret m x",
+    "seal --set 2 --secret - - x",
+    "seal --set 2 --secret secret --random - - x",
+    "seal --set 2 --secret secret --force m m",
+    "seal --set 2 --secret secret --force m ./m",
+    "seal --set 2 --secret secret --force m secret",
+    "seal --set 2 --secret",
+    "check --set 2 --public public - -",
+    "check --set 2 --public - m -",
+    "check --set 2 --public public --force m s",
+    "check --set shake-128 --public public m s",
+    "check --set -1 --public public m s",
+    "check --set +2 --public public m s",
+    "check --set 4294967296 --public public m s",
+    "part --set 2 s",
+    "part --set 2 s one",
+    "part --set 2 s 4294967296",
+    "part --set 2 --force s 1 s",
+    "digits --set 2",
+    "digits --set 2 0",
+    "digits --set 2 0g",
+    "digits --set 2 -",
+    "try more",
+    "try --set 2",
+];
+
 #[test]
 fn bad_usage() {
     let work = Workplace::sealed("bad_usage");
-    let lines = [
-        "unknown",
-        "keys --set 2 --seeds seeds --public p",
-        "keys --set 2 --seeds seeds --public p --secret -",
-        "keys --set 2 --seeds seeds --public p --secret p",
-        "keys --set 2 --seeds seeds --public p --secret ./p",
-        "keys --set 2 --seeds seeds --public seeds --secret x --force",
-        "keys --set 2 --seeds seeds --public p --secret seeds --force",
-        "keys --set 2 --seeds seeds --public p --secret x more",
-        "keys --set --seeds seeds --public p --secret x",
-        "seal --set 2 --secret secret m",
-        "seal --set 2 --secret secret m x y",
-        "seal --set 2 m x",
-        "seal --secret secret m x",
-        "seal --set 2 --secret secret --secret secret m x",
-        "seal --set 2 --secret - - x",
-        "seal --set 2 --secret secret --random - - x",
-        "seal --set 2 --secret secret --force m m",
-        "seal --set 2 --secret secret --force m ./m",
-        "seal --set 2 --secret secret --force m secret",
-        "seal --set 2 --secret",
-        "check --set 2 --public public - -",
-        "check --set 2 --public - m -",
-        "check --set 2 --public public --force m s",
-        "check --set shake-128 --public public m s",
-        "check --set -1 --public public m s",
-        "check --set +2 --public public m s",
-        "check --set 4294967296 --public public m s",
-        "part --set 2 s",
-        "part --set 2 s one",
-        "part --set 2 s 4294967296",
-        "part --set 2 --force s 1 s",
-        "digits --set 2",
-        "digits --set 2 0",
-        "digits --set 2 0g",
-        "digits --set 2 -",
-        "try more",
-        "try --set 2",
-    ];
-    for line in lines {
+    for line in BAD_USAGE {
         work.refuses(line, 64, "");
     }
     let nothing = work.run("");
@@ -143,6 +145,36 @@ fn rejections() {
     }
 }
 
+const NO_SET: &str = "refused, 1: there is no set 9; the sets are 1 (shake-128s) and 2 (shake-128f)";
+
+/// Refused command lines, each with its status and what it says, on the files of `refusals`.
+const REFUSALS: [(&str, i32, &str); 24] = [
+    ("keys --set 9 --seeds seeds --public p --secret x", 1, NO_SET),
+    ("seal --set 9 --secret 63 --random 15 long x", 1, NO_SET),
+    ("check --set 9 --public 63 long 0", 1, NO_SET),
+    ("part --set 9 s 99", 1, NO_SET),
+    ("digits --set 9 00", 1, NO_SET),
+    ("part --set 0 s 0", 1, "refused, 1: there is no set 0; "),
+    ("part --set 4294967295 s 0", 1, "refused, 1: there is no set 4294967295; "),
+    ("keys --set 1 --seeds 47 --public p --secret x", 2, "the file of seeds has 47 bytes and set 1 wants 48"),
+    ("keys --set 2 --seeds 49 --public p --secret x", 2, "the file of seeds has 49 bytes and set 2 wants 48"),
+    ("keys --set 2 --seeds 0 --public p --secret x", 2, "the file of seeds has 0 bytes and set 2 wants 48"),
+    ("keys --set 2 --seeds 15 --public p --secret x", 2, "the file of seeds has 15 bytes and set 2 wants 48"),
+    ("seal --set 1 --secret 63 m x", 2, "refused, 2: the secret key has 63 bytes and set 1 wants 64"),
+    ("seal --set 2 --secret 63 --random 15 long x", 2, "wants 64; the randomizer input has 15 bytes and"),
+    ("seal --set 2 --secret secret --random 1 m x", 2, "the randomizer input has 1 byte and set 2 wants 16 or 0"),
+    ("check --set 1 --public 47 long 7855", 2, "refused, 2: the public key has 47 bytes and set 1 wants 32"),
+    ("digits --set 1 00", 2, "refused, 2: the value has 1 byte and set 1 wants 16"),
+    ("seal --set 1 --secret secret long x", 3, "refused, 3: the message has more than 65,536 bytes"),
+    ("check --set 1 --public public long 7855", 3, "refused, 3: the message has more than 65,536 bytes"),
+    ("check --set 1 --public public m 7855", 4, "refused, 4: the seal has 7,855 bytes and set 1 wants 7,856"),
+    ("check --set 1 --public public m s", 4, "refused, 4: the seal has 17,088 bytes and set 1 wants 7,856"),
+    ("check --set 2 --public public m long", 4, "the seal has more than 65,536 bytes and set 2 wants 17,088"),
+    ("part --set 1 7855 99", 4, "refused, 4: the seal has 7,855 bytes and set 1 wants 7,856"),
+    ("part --set 2 s 24", 6, "refused, 6: there is no part 24: set 2 has the parts 0 to 23"),
+    ("part --set 2 s 4294967295 x", 6, "refused, 6: there is no part 4294967295: set 2 has the parts 0 to 23"),
+];
+
 /// Each refusal says in numbers what was wrong; where several apply, the smallest number's is given.
 #[test]
 fn refusals() {
@@ -152,34 +184,7 @@ fn refusals() {
     }
     work.put("limit", &vec![0; 65_536]);
     work.put("long", &vec![0; 65_537]);
-    let no_set = "refused, 1: there is no set 9; the sets are 1 (shake-128s) and 2 (shake-128f)";
-    let cases = [
-        ("keys --set 9 --seeds seeds --public p --secret x", 1, no_set),
-        ("seal --set 9 --secret 63 --random 15 long x", 1, no_set),
-        ("check --set 9 --public 63 long 0", 1, no_set),
-        ("part --set 9 s 99", 1, no_set),
-        ("digits --set 9 00", 1, no_set),
-        ("part --set 0 s 0", 1, "refused, 1: there is no set 0; "),
-        ("part --set 4294967295 s 0", 1, "refused, 1: there is no set 4294967295; "),
-        ("keys --set 1 --seeds 47 --public p --secret x", 2, "the file of seeds has 47 bytes and set 1 wants 48"),
-        ("keys --set 2 --seeds 49 --public p --secret x", 2, "the file of seeds has 49 bytes and set 2 wants 48"),
-        ("keys --set 2 --seeds 0 --public p --secret x", 2, "the file of seeds has 0 bytes and set 2 wants 48"),
-        ("keys --set 2 --seeds 15 --public p --secret x", 2, "the file of seeds has 15 bytes and set 2 wants 48"),
-        ("seal --set 1 --secret 63 m x", 2, "refused, 2: the secret key has 63 bytes and set 1 wants 64"),
-        ("seal --set 2 --secret 63 --random 15 long x", 2, "wants 64; the randomizer input has 15 bytes and"),
-        ("seal --set 2 --secret secret --random 1 m x", 2, "the randomizer input has 1 byte and set 2 wants 16 or 0"),
-        ("check --set 1 --public 47 long 7855", 2, "refused, 2: the public key has 47 bytes and set 1 wants 32"),
-        ("digits --set 1 00", 2, "refused, 2: the value has 1 byte and set 1 wants 16"),
-        ("seal --set 1 --secret secret long x", 3, "refused, 3: the message has more than 65,536 bytes"),
-        ("check --set 1 --public public long 7855", 3, "refused, 3: the message has more than 65,536 bytes"),
-        ("check --set 1 --public public m 7855", 4, "refused, 4: the seal has 7,855 bytes and set 1 wants 7,856"),
-        ("check --set 1 --public public m s", 4, "refused, 4: the seal has 17,088 bytes and set 1 wants 7,856"),
-        ("check --set 2 --public public m long", 4, "the seal has more than 65,536 bytes and set 2 wants 17,088"),
-        ("part --set 1 7855 99", 4, "refused, 4: the seal has 7,855 bytes and set 1 wants 7,856"),
-        ("part --set 2 s 24", 6, "refused, 6: there is no part 24: set 2 has the parts 0 to 23"),
-        ("part --set 2 s 4294967295 x", 6, "refused, 6: there is no part 4294967295: set 2 has the parts 0 to 23"),
-    ];
-    for (line, status, said) in cases {
+    for (line, status, said) in REFUSALS {
         work.refuses(line, status, said);
     }
     assert_eq!(work.run("check --set 2 --public public limit s").status, 5);
