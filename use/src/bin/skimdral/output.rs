@@ -181,8 +181,8 @@ fn rename_anew(from: &Path, to: &Path) -> io::Result<()> {
     }
 }
 
-/// Makes something under the first temporary name beside the target that is free.
-fn beside<T>(target: &Path, make: impl Fn(&Path) -> io::Result<T>) -> io::Result<(PathBuf, T)> {
+/// Makes something under the first temporary name beside the target that is free, and gives its path.
+pub fn beside<T>(target: &Path, make: impl Fn(&Path) -> io::Result<T>) -> io::Result<(PathBuf, T)> {
     let mut number = 0;
     loop {
         let path = folder(target).join(format!(".skimdral-{}-{number}", process::id()));

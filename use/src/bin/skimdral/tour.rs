@@ -2,7 +2,7 @@
 
 use crate::arguments::Arguments;
 use crate::commands;
-use crate::output::say;
+use crate::output::{beside, say};
 use crate::refusal::grouped;
 use crate::stop::Stop;
 use skimdral::Answer;
@@ -11,7 +11,6 @@ use std::fs::{self, DirBuilder};
 use std::io::Write;
 use std::os::unix::fs::DirBuilderExt;
 use std::path::PathBuf;
-use std::process;
 
 /// The set whose sealing takes a moment only.
 const SET: &str = "shake-128f";
@@ -128,9 +127,9 @@ struct Folder(PathBuf);
 
 impl Folder {
     fn new() -> Result<Folder, Stop> {
-        let path = std::env::temp_dir().join(format!("skimdral-try-{}", process::id()));
-        let made = DirBuilder::new().mode(0o700).create(&path);
-        made.map_err(|reason| Stop::unwritable(&path, reason))?;
+        let place = std::env::temp_dir().join("tour");
+        let made = beside(&place, |path| DirBuilder::new().mode(0o700).create(path));
+        let (path, ()) = made.map_err(|reason| Stop::unwritable(&place, reason))?;
         Ok(Folder(path))
     }
 }
