@@ -5,6 +5,7 @@ mod common;
 use common::workplace::Workplace;
 use std::fs::{self, File};
 use std::os::unix::fs::{symlink, PermissionsExt};
+use std::process::Command;
 
 const COMMANDS: [&str; 6] = ["keys", "seal", "check", "part", "digits", "try"];
 
@@ -282,11 +283,13 @@ fn force_replaces_files_alone() {
     assert_eq!((work.get("secret2"), mode(&work, "secret2")), (secret, 0o600));
     fs::create_dir(work.at("folder")).expect("a folder");
     symlink("public", work.at("link")).expect("a link");
-    for target in ["folder", "link", "/dev/null"] {
+    let pipe = Command::new("mkfifo").arg(work.at("pipe")).status().expect("mkfifo runs");
+    assert!(pipe.success());
+    for target in ["folder", "link", "pipe"] {
         work.refuses(&format!("seal --set 2 --secret secret --force m {target}"), 73, "no ordinary file");
     }
     let names: Vec<String> = work.files().into_keys().collect();
-    assert_eq!(names, ["folder", "link", "m", "public", "s", "secret", "secret2", "seeds"]);
+    assert_eq!(names, ["folder", "link", "m", "pipe", "public", "s", "secret", "secret2", "seeds"]);
 }
 
 #[test]

@@ -54,11 +54,11 @@ impl Workplace {
         fs::read(self.at(file)).unwrap_or_else(|reason| panic!("{file}: {reason}"))
     }
 
-    /// All files with their bytes; a folder has none.
+    /// All files with their bytes; a folder, a pipe and a link to nowhere have none.
     pub fn files(&self) -> BTreeMap<String, Vec<u8>> {
         let entries = fs::read_dir(&self.0).expect("a folder").map(|entry| entry.expect("an entry"));
         let named = entries.map(|entry| entry.file_name().into_string().expect("text"));
-        named.map(|name| (name.clone(), fs::read(self.at(&name)).unwrap_or_default())).collect()
+        named.map(|name| (name.clone(), if self.at(&name).is_file() { self.get(&name) } else { Vec::new() })).collect()
     }
 
     /// Runs the tool in the folder, on words between blanks.

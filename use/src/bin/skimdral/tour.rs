@@ -140,3 +140,19 @@ impl Drop for Folder {
         let _ = fs::remove_dir_all(&self.0);
     }
 }
+
+#[cfg(test)]
+mod tests {
+    use super::{Folder, Tour};
+
+    /// One step of two answers otherwise than it must, and the tour fails.
+    #[test]
+    fn a_step_astray() {
+        let mut out = Vec::new();
+        let mut tour = Tour { folder: Folder::new().expect("a folder"), out: &mut out, steps: 0, astray: 0 };
+        tour.step("an unknown set", 1, &["digits", "--set", "9", "00"]).expect("shown");
+        tour.step("a wrong length", 0, &["digits", "--set", "1", "00"]).expect("shown");
+        let stop = tour.conclude().expect_err("astray");
+        assert_eq!((stop.status, stop.line.as_str()), (70, "1 of 2 steps answered otherwise"));
+    }
+}
