@@ -264,6 +264,7 @@ fn an_existing_output_is_kept() {
     let kept = "it exists, and is kept without --force";
     work.refuses("seal --set 2 --secret secret m s", 73, kept);
     work.refuses("part --set 2 s 0 public", 73, kept);
+    work.refuses("part --set 2 s 99 public", 73, kept);
     work.refuses("keys --set 2 --seeds seeds --public public --secret x", 73, kept);
     work.refuses("keys --set 2 --seeds seeds --public p --secret secret", 73, kept);
     symlink("nowhere", work.at("link")).expect("a link");

@@ -143,15 +143,15 @@ fn presented(seal: &[u8]) -> Lent {
 fn part(given: &Arguments, out: &mut dyn Write) -> Result<Answer, Stop> {
     let (set, file, text) = (given.set()?, given.need_place(0)?, given.need_place(1)?);
     let number = number(text).ok_or_else(|| Stop::usage("a part's number is a number"))?;
-    if let Some(target) = given.place(2) {
-        apart(target, &[file])?;
-    }
+    let target = given.place(2);
+    target.map_or(Ok(()), |target| apart(target, &[file]))?;
     let seal = read(file)?;
+    target.map_or(Ok(()), |target| permit(target, given.force))?;
     let range = skimdral::part_range(set, &seal, number).map_err(|answer| match answer {
         Answer::UnknownPart => unknown_part(set, number),
         answer => explain(answer, set, &[presented(&seal)]),
     })?;
-    match given.place(2) {
+    match target {
         Some(target) => write(target, &seal[range], given.force, out)?,
         None => say(out, format!("start {}, length {}\n", range.start, range.len()).as_bytes())?,
     }
