@@ -76,6 +76,30 @@ fn builds_what_is_stale() {
     assert_eq!(run(&work), (5, shown, "cargo\n".to_string()));
 }
 
+/// One that somebody else has made, as the gate does, is as good.
+#[test]
+fn a_library_of_others() {
+    let work = repository("a_library_of_others");
+    fs::create_dir_all(work.at("target/staticlib")).expect("a folder");
+    work.put("target/staticlib/libface.a", b"");
+    assert_eq!(run(&work).2, "cargo\n");
+    date(&work, "target/staticlib/libface.a", -200);
+    assert_eq!(run(&work).2, "rt staticlib face\ncargo\n");
+}
+
+/// A source that is edited while the library is made counts as newer.
+#[test]
+fn an_edit_meanwhile() {
+    let work = repository("an_edit_meanwhile");
+    work.put(
+        "programs/rt",
+        format!("{RT}sleep 0.1; touch crates/lib.rt; sleep 0.1; touch target/staticlib/libface.a").as_bytes(),
+    );
+    for _ in 0..2 {
+        assert_eq!(run(&work).2, "rt staticlib face\ncargo\n");
+    }
+}
+
 /// A library that can't be proved is not used, not even the old one.
 #[test]
 fn an_unproved_library_is_not_used() {
