@@ -51,10 +51,10 @@ fn seals_of(set: u32, lengths: &[usize], random: &mut Random) {
     }
 }
 
-/// Sealing under set 1 takes seconds, so each length is there once.
+/// Sealing under set 1 takes seconds, so few lengths are there, each once.
 #[test]
 fn seals_of_set_1() {
-    seals_of(1, &[0, 86, 102, MESSAGE_LIMIT], &mut Random::of_test(1));
+    seals_of(1, &[0, 86, MESSAGE_LIMIT], &mut Random::of_test(1));
 }
 
 #[test]
