@@ -1,4 +1,5 @@
--- A check on plain values: the digest, the forest on its part of the seal, and the layers on theirs, are the rules' check.
+-- A check on plain values: the digest, the forest on its part of the seal, and the layers on theirs, are the rules'
+-- check.
 -- Assumes nothing.
 use mathlib.Core.Path.{_≡_, refl, sym, ap, ap₂, _∙_}
 use mathlib.Core.List.{List, [], _∷_, _++_}
@@ -101,7 +102,8 @@ module _ (r : Row) (f : Family (r .n) (r .m)) (public message seal : Bytes) (lon
   place-is =
       e ∙ ap₂ (λ R k. pointed r (digestOf r f R k (take (length public - r .n) (drop (r .n) public)) (frame message)
       .result)) (ap (λ k. take k seal) (sub-zero (r .n))) (first-piece (r .n) public)
-      ∙ ap (λ x. pointed r (digestOf r f (part r 0 seal) (piece (r .n) 0 public) x (frame message) .result)) (rest-piece (r .n) public long)
+      ∙ ap (λ x. pointed r (digestOf r f (part r 0 seal) (piece (r .n) 0 public) x (frame message) .result))
+      (rest-piece (r .n) public long)
 
   pub checked-made : {root : Bytes} → root ≡ rootAt r f (take (r .n - 0) public) seal p .result
       → root ≡ checkedRoot r f public (frame message) seal .result

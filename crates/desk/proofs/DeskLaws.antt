@@ -1,4 +1,5 @@
--- The laws of the desk's tests on plain values: the first test that fails decides, and only where all pass is work done.
+-- The laws of the desk's tests on plain values: the first test that fails decides, and work is done only where all
+-- pass.
 -- Assumes nothing.
 use mathlib.Core.Path.{_≡_, refl, sym, ap, _∙_}
 use mathlib.Core.Bool.{Bool, true, false, not, cond, _&&_, _||_}

@@ -37,7 +37,8 @@ use Rattle.desk.proofs.AnswerLaws.{settled-made, settled-kept}
 
 module _ {row other : Option Row} (e : row ≡ other) where
   pub keys-by : {s p q public secret public′ secret′ : Bytes} {answer : Answer}
-      → KeysMade other s p q public secret answer public′ secret′ → KeysMade row s p q public secret answer public′ secret′
+      → KeysMade other s p q public secret answer public′ secret′ → KeysMade row s p q public secret answer public′
+      secret′
   keys-by k = rw e k
 
   pub seal-by : {secret message random out out′ : Bytes} {answer : Answer}
@@ -124,7 +125,8 @@ module _ (secret message random out : Bytes) where
         → Sealed (some r) secret message random out Done out′
     seal-done z e = record {
       answered = sym z;
-      out-is = e ∙ sym (settled-made _ (some r) (λ r. sealOf r (familyFor r) secret random (frame message) .result) out r z refl);
+      out-is = e ∙ sym (settled-made _ (some r)
+          (λ r. sealOf r (familyFor r) secret random (frame message) .result) out r z refl);
     }
 
     pub seal-refused : {answer : Answer} → number answer ≡ sealAnswer (some r) secret message random out

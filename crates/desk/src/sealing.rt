@@ -25,7 +25,8 @@ fn seal_answer(row: Row, secret: usize, message: usize, random: usize, out: usiz
         (messageFits message) (eqb out (row .seal)) true) ⌝ }
 {
     let lengths = both(secret == row.secret, either(random == 0, random == row.n));
-    first_failed(lengths, message_fits(message), out == row.seal, true)
+    let fits = message_fits(message);
+    first_failed(lengths, fits, out == row.seal, true)
 }
 
 // Under a known set.

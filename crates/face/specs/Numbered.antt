@@ -17,4 +17,5 @@ pub record Numbered (n : ℕ) (Promise : Answer → Type 0) : Type 0 where
 
 -- The promise of a check, of its answer and its F calls one by one.
 abbrev pub CheckedAs : Option Row → (public message seal : Bytes) → Answer → (calls : ℕ) → Type 0
-CheckedAs row public message seal answer calls = Checked row public message seal (record { answer = answer; calls = calls })
+CheckedAs row public message seal answer calls = Checked row public message seal
+    (record { answer = answer; calls = calls })

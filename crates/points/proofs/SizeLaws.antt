@@ -1,4 +1,5 @@
--- The sizes of a ready row: its forest's part is small, and a seal is the randomizer, the forest's part and the layers'.
+-- The sizes of a ready row: its forest's part is small, and a seal is the randomizer, the forest's part and the
+-- layers'.
 -- Assumes nothing.
 use mathlib.Core.Path.{_≡_, sym, ap, _∙_}
 use Prim.Native.Nat.{ℕ, _+_, _-_, _*_, _^_, _≤_, _<_}

@@ -17,18 +17,21 @@ returns-2 c =
 returns-3 : tie.Need-returns-3
 returns-3 c =
     let a = c .before .before .before .args in
-    fails-room (a .lengths) (a .message) (a .room) (a .part) (c .before .before .if1 .left) (c .before .if2 .left) (c .if3 .taken)
+    fails-room (a .lengths) (a .message) (a .room) (a .part) (c .before .before .if1 .left) (c .before .if2 .left)
+    (c .if3 .taken)
 
 returns-4 : tie.Need-returns-4
 returns-4 c =
     let a = c .before .before .before .before .args in
-    fails-part (a .lengths) (a .message) (a .room) (a .part) (c .before .before .before .if1 .left) (c .before .before .if2 .left) (c .before .if3 .left)
+    fails-part (a .lengths) (a .message) (a .room) (a .part) (c .before .before .before .if1 .left)
+    (c .before .before .if2 .left) (c .before .if3 .left)
     (c .if4 .taken)
 
 returns-5 : tie.Need-returns-5
 returns-5 c =
     let a = c .before .before .before .before .args in
-    passes (a .lengths) (a .message) (a .room) (a .part) (c .before .before .before .if1 .left) (c .before .before .if2 .left) (c .before .if3 .left)
+    passes (a .lengths) (a .message) (a .room) (a .part) (c .before .before .before .if1 .left)
+    (c .before .before .if2 .left) (c .before .if3 .left)
     (c .if4 .left)
 
 pub first-failed-spec : {M : Type 1} → statement M

@@ -41,7 +41,8 @@ returns-2 : tie.Need-returns-2 Inv-loop μ-loop
 returns-2 c =
     let l = c .before .before .before .before .loop in
     let s = c .before .before .before .before .before .before .args in
-    let t : same (drop (l .i) (s .a .now)) (drop (l .i) (s .b .now)) ≡ false = rw (same-turn (s .a .now) (s .b .now) (l .i) (omega arith) (omega arith), ne-eqb _ _ (c .if2 .taken)) in
+    let t : same (drop (l .i) (s .a .now)) (drop (l .i) (s .b .now)) ≡ false = rw
+    (same-turn (s .a .now) (s .b .now) (l .i) (omega arith) (omega arith), ne-eqb _ _ (c .if2 .taken)) in
     sym t ∙ l .inv .1
 
 -- src/lib.rt:72:9
@@ -57,7 +58,9 @@ loop-again : tie.Need-loop-again Inv-loop μ-loop
 loop-again c =
     let l = c .before .before .before .before .loop in
     let s = c .before .before .before .before .before .before .args in
-    let t : same (drop (l .i) (s .a .now)) (drop (l .i) (s .b .now)) ≡ same (drop (l .i + 1) (s .a .now)) (drop (l .i + 1) (s .b .now)) = rw (same-turn (s .a .now) (s .b .now) (l .i) (omega arith) (omega arith), eq-eqb _ _ (c .if2 .left)) in
+    let t : same (drop (l .i) (s .a .now)) (drop (l .i) (s .b .now)) ≡ same (drop (l .i + 1) (s .a .now))
+    (drop (l .i + 1) (s .b .now)) = rw
+    (same-turn (s .a .now) (s .b .now) (l .i) (omega arith) (omega arith), eq-eqb _ _ (c .if2 .left)) in
     (omega arith, sym t ∙ l .inv .1)
 
 -- src/lib.rt:61:1

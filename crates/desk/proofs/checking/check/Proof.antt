@@ -25,4 +25,6 @@ returns-2 c =
     (check-unknown (a .public .now) (a .message .now) (a .seal .now))
 
 pub check-spec : {M : Type 1} → statement M
-check-spec = tie.close (tie.spec (λ c κs. search needs) (λ c. search needs) check-under-requires (λ c. search needs) returns returns-2)
+check-spec =
+    tie.close
+    (tie.spec (λ c κs. search needs) (λ c. search needs) check-under-requires (λ c. search needs) returns returns-2)

@@ -44,7 +44,8 @@ two c = long c .0 ∙ c .before .before .before .before .before .before .pre .le
 slice-aggregate-same : tie.Need-slice-aggregate-same
 slice-aggregate-same c =
     let w = c .before .before in
-    sym (length-take-le _ _ (omega (arith, w .checked-root .ensures .1 .1, w .before .before .before .before .before .before .before .pre .fit .values)))
+    sym (length-take-le _ _ (omega
+    (arith, w .checked-root .ensures .1 .1, w .before .before .before .before .before .before .before .pre .fit .values)))
 
 sub-same : tie.Need-sub-same
 sub-same c = omega (arith, two (c .before .before .before))
@@ -61,7 +62,8 @@ compared c =
     let e = c .before .before .before .before .before in
     let a = e .before .before .before .before .before .before .args in
     c .same .ensures
-    ∙ ap₂ same (c .before .before .before .before .checked-root .ensures .0) (rest-piece (a .row .n) (a .public .now) (two e))
+    ∙ ap₂ same (c .before .before .before .before .checked-root .ensures .0)
+    (rest-piece (a .row .n) (a .public .now) (two e))
 
 returns-2 : tie.Need-returns-2
 returns-2 c =
@@ -69,7 +71,8 @@ returns-2 c =
     let a = e .before .before .before .before .before .before .args in
     check-done (a .public .now) (a .message .now) (a .seal .now) (ruledRow (a .row))
     (sym (e .before .before .check-answer .ensures) ∙ sym (e .before .number-of .ensures) ∙ e .if1 .left)
-    (sym (compared (c .before)) ∙ c .if2 .taken) (c .before .before .before .before .before .checked-root .ensures .1 .0)
+    (sym (compared (c .before)) ∙ c .if2 .taken)
+    (c .before .before .before .before .before .checked-root .ensures .1 .0)
 
 returns-3 : tie.Need-returns-3
 returns-3 c =
@@ -82,5 +85,6 @@ returns-3 c =
 pub check-under-spec : {M : Type 1} → statement M
 check-under-spec =
     tie.close
-    (tie.spec (λ c κs. search needs) (λ c κs. search needs) returns checked-root-requires (λ c. search needs) slice-aggregate-same sub-same part-same-start (λ c. search needs) (λ c κs. search needs)
+    (tie.spec (λ c κs. search needs) (λ c κs. search needs) returns checked-root-requires (λ c. search needs)
+    slice-aggregate-same sub-same part-same-start (λ c. search needs) (λ c κs. search needs)
     returns-2 returns-3)

@@ -15,7 +15,8 @@ chain-digits-under-requires c κs =
 returns : tie.Need-returns
 returns c =
     let a = c .before .before .before .before .before .before .before .before .before .before .args in
-    digits-by (row-found (c .before .before .before .before .before .found .given .1) (c .before .before .before .before .before .before .before .find-row .ensures))
+    digits-by (row-found (c .before .before .before .before .before .found .given .1)
+    (c .before .before .before .before .before .before .before .find-row .ensures))
     (c .before .before .chain-digits-under .ensures)
 
 returns-2 : tie.Need-returns-2
@@ -25,4 +26,7 @@ returns-2 c =
     (digits-unknown (a .value .now) (a .digits .now))
 
 pub chain-digits-spec : {M : Type 1} → statement M
-chain-digits-spec = tie.close (tie.spec (λ c κs. search needs) (λ c. search needs) chain-digits-under-requires (λ c. search needs) (λ c. search needs) returns returns-2)
+chain-digits-spec =
+    tie.close
+    (tie.spec (λ c κs. search needs) (λ c. search needs) chain-digits-under-requires (λ c. search needs)
+    (λ c. search needs) returns returns-2)

@@ -13,8 +13,11 @@ returns c =
     let a = c .before .before .before .before .before .before .before .before .before .args in
     by-tests (eqb (a .sk) (a .row .n) && (eqb (a .prf) (a .row .n) && eqb (a .pk) (a .row .n))) true
     (eqb (a .public) (a .row .public) && eqb (a .secret) (a .row .secret)) true
-    (c .before .before .before .before .both2 .ensures ∙ ap (λ x. eqb (a .sk) (a .row .n) && x) (c .before .before .before .before .before .both .ensures)) refl
+    (c .before .before .before .before .both2 .ensures ∙ ap (λ x. eqb (a .sk) (a .row .n) && x)
+    (c .before .before .before .before .before .both .ensures)) refl
     (c .before .both3 .ensures) (c .first-failed .ensures)
 
 pub keys-answer-spec : {M : Type 1} → statement M
-keys-answer-spec = tie.close (tie.spec (λ c κs. search needs) (λ c κs. search needs) (λ c κs. search needs) (λ c κs. search needs) returns)
+keys-answer-spec =
+    tie.close
+    (tie.spec (λ c κs. search needs) (λ c κs. search needs) (λ c κs. search needs) (λ c κs. search needs) returns)

@@ -10,12 +10,14 @@ use Rattle.desk.proofs.making.make_keys.Tie as tie
 make-keys-under-requires : tie.Need-make-keys-under-requires
 make-keys-under-requires c κs =
     rowOf-ready (c .before .before .before .before .before .before .before .before .before .before .before .args .set) _
-    (row-found (c .before .before .before .found .given .1) (c .before .before .before .before .before .find-row .ensures))
+    (row-found (c .before .before .before .found .given .1)
+    (c .before .before .before .before .before .find-row .ensures))
 
 returns : tie.Need-returns
 returns c =
     let a = c .before .before .before .before .before .before .before .before .before .before .before .before .before .before .before .before .args in
-    keys-by (row-found (c .before .before .before .before .before .before .before .before .found .given .1) (c .before .before .before .before .before .before .before .before .before .before .find-row .ensures))
+    keys-by (row-found (c .before .before .before .before .before .before .before .before .found .given .1)
+    (c .before .before .before .before .before .before .before .before .before .before .find-row .ensures))
     (c .before .before .before .before .make-keys-under .ensures)
 
 returns-2 : tie.Need-returns-2
@@ -25,4 +27,7 @@ returns-2 c =
     (keys-unknown (a .secret-seed .now) (a .prf-seed .now) (a .public-seed .now) (a .public .now) (a .secret .now))
 
 pub make-keys-spec : {M : Type 1} → statement M
-make-keys-spec = tie.close (tie.spec (λ c κs. search needs) (λ c. search needs) make-keys-under-requires (λ c. search needs) (λ c. search needs) (λ c. search needs) returns returns-2)
+make-keys-spec =
+    tie.close
+    (tie.spec (λ c κs. search needs) (λ c. search needs) make-keys-under-requires (λ c. search needs)
+    (λ c. search needs) (λ c. search needs) returns returns-2)

@@ -11,14 +11,17 @@ keys-in-requires : tie.Need-keys-in-requires
 keys-in-requires c κs =
     let s = c .before .before .before .before .before .before .before .before .before .before in
     let a = s .args in
-    let z = sym (c .before .before .before .before .keys-answer .ensures) ∙ sym (c .before .before .before .number-of .ensures) ∙ c .before .before .if1 .taken in
+    let z = sym (c .before .before .before .before .keys-answer .ensures) ∙ sym
+    (c .before .before .before .number-of .ensures) ∙ c .before .before .if1 .taken in
     let l = keys-long (a .sk .now) (a .prf .now) (a .pk .now) (a .public .now) (a .secret .now) (ruledRow (a .row)) z in
     ((s .pre, l .s-long, l .p-long, l .q-long), (l .public-long, l .secret-long))
 
 returns : tie.Need-returns
 returns c =
     let a = c .before .before .before .before .before .before .before .before .before .before .before .before .before .before .before .args in
-    let z = sym (c .before .before .before .before .before .before .before .before .before .keys-answer .ensures) ∙ sym (c .before .before .before .before .before .before .before .before .number-of .ensures) ∙ c .before .before .before .before .before .before .before .if1 .taken in
+    let z = sym (c .before .before .before .before .before .before .before .before .before .keys-answer .ensures) ∙
+    sym (c .before .before .before .before .before .before .before .before .number-of .ensures) ∙
+    c .before .before .before .before .before .before .before .if1 .taken in
     keys-done (a .sk .now) (a .prf .now) (a .pk .now) (a .public .now) (a .secret .now) (ruledRow (a .row)) z
     (c .before .before .before .before .keys-in .ensures .0) (c .before .before .before .before .keys-in .ensures .1)
 
@@ -30,4 +33,7 @@ returns-2 c =
     (λ z. c .if1 .left (c .before .number-of .ensures ∙ e ∙ z))
 
 pub make-keys-under-spec : {M : Type 1} → statement M
-make-keys-under-spec = tie.close (tie.spec (λ c κs. search needs) (λ c κs. search needs) keys-in-requires (λ c. search needs) (λ c. search needs) returns returns-2)
+make-keys-under-spec =
+    tie.close
+    (tie.spec (λ c κs. search needs) (λ c κs. search needs) keys-in-requires (λ c. search needs)
+    (λ c. search needs) returns returns-2)

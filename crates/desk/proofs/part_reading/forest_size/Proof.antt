@@ -24,4 +24,6 @@ unfolding forestBytes treeBytes
 returns c = refl
 
 pub forest-size-spec : {M : Type 1} → statement M
-forest-size-spec = tie.close (tie.spec (λ c. search needs) (λ c. search needs) mul-result add-result (λ c. search needs) returns)
+forest-size-spec =
+    tie.close
+    (tie.spec (λ c. search needs) (λ c. search needs) mul-result add-result (λ c. search needs) returns)

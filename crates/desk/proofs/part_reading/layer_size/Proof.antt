@@ -27,4 +27,7 @@ unfolding layerBytes chainBytes
 returns c = refl
 
 pub layer-size-spec : {M : Type 1} → statement M
-layer-size-spec = tie.close (tie.spec (λ c. search needs) (λ c. search needs) mul-result-2 (λ c. search needs) mul-result-3 add-result-2 returns)
+layer-size-spec =
+    tie.close
+    (tie.spec (λ c. search needs) (λ c. search needs) mul-result-2 (λ c. search needs) mul-result-3
+    add-result-2 returns)

@@ -15,14 +15,19 @@ part-under-requires c κs =
 returns : tie.Need-returns
 returns c =
     let a = c .before .before .before .before .before .before .args in
-    part-by (row-found (c .before .before .found .given .1) (c .before .before .before .before .find-row .ensures)) (a .seal .now) (a .number)
+    part-by (row-found (c .before .before .found .given .1) (c .before .before .before .before .find-row .ensures))
+    (a .seal .now) (a .number)
     (c .part-under .ensures)
 
 returns-2 : tie.Need-returns-2
 returns-2 c =
     let a = c .before .before .before .before .before .args in
-    part-by (row-missing (c .before .enum-told .given .1) (c .before .before .before .find-row .ensures)) (a .seal .now) (a .number)
+    part-by (row-missing (c .before .enum-told .given .1) (c .before .before .before .find-row .ensures))
+    (a .seal .now) (a .number)
     (part-unknown (a .seal .now) (a .number) .1)
 
 pub part-spec : {M : Type 1} → statement M
-part-spec = tie.close (tie.spec (λ c κs. search needs) (λ c. search needs) part-under-requires (λ c. search needs) (λ c. search needs) (λ c. search needs) (λ c. search needs) returns returns-2)
+part-spec =
+    tie.close
+    (tie.spec (λ c κs. search needs) (λ c. search needs) part-under-requires (λ c. search needs) (λ c. search needs)
+    (λ c. search needs) (λ c. search needs) returns returns-2)

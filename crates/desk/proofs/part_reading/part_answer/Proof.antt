@@ -15,14 +15,19 @@ part-answer-under-requires c κs =
 returns : tie.Need-returns
 returns c =
     let a = c .before .before .before .before .before .before .args in
-    part-answer-by (row-found (c .before .before .found .given .1) (c .before .before .before .before .find-row .ensures)) (a .seal .now) (a .number)
+    part-answer-by (row-found (c .before .before .found .given .1)
+    (c .before .before .before .before .find-row .ensures)) (a .seal .now) (a .number)
     (c .part-answer-under .ensures)
 
 returns-2 : tie.Need-returns-2
 returns-2 c =
     let a = c .before .before .before .before .args in
-    part-answer-by (row-missing (c .enum-told .given .1) (c .before .before .find-row .ensures)) (a .seal .now) (a .number)
+    part-answer-by (row-missing (c .enum-told .given .1) (c .before .before .find-row .ensures)) (a .seal .now)
+    (a .number)
     (part-unknown (a .seal .now) (a .number) .0)
 
 pub part-answer-spec : {M : Type 1} → statement M
-part-answer-spec = tie.close (tie.spec (λ c κs. search needs) (λ c. search needs) part-answer-under-requires (λ c. search needs) returns returns-2)
+part-answer-spec =
+    tie.close
+    (tie.spec (λ c κs. search needs) (λ c. search needs) part-answer-under-requires
+    (λ c. search needs) returns returns-2)

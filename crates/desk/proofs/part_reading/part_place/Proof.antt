@@ -9,12 +9,14 @@ use Rattle.desk.proofs.part_reading.part_place.Tie as tie
 
 part-place-under-requires : tie.Need-part-place-under-requires
 part-place-under-requires c κs =
-    rowOf-ready (c .before .before .before .before .before .args .set) _ (row-found (c .before .found .given .1) (c .before .before .before .find-row .ensures))
+    rowOf-ready (c .before .before .before .before .before .args .set) _
+    (row-found (c .before .found .given .1) (c .before .before .before .find-row .ensures))
 
 returns : tie.Need-returns
 returns c =
     let a = c .before .before .before .before .before .before .args in
-    place-by (row-found (c .before .before .found .given .1) (c .before .before .before .before .find-row .ensures)) (a .seal .now) (a .number)
+    place-by (row-found (c .before .before .found .given .1) (c .before .before .before .before .find-row .ensures))
+    (a .seal .now) (a .number)
     (c .part-place-under .ensures)
 
 returns-2 : tie.Need-returns-2
@@ -24,4 +26,7 @@ returns-2 c =
     (place-unknown (a .seal .now) (a .number))
 
 pub part-place-spec : {M : Type 1} → statement M
-part-place-spec = tie.close (tie.spec (λ c κs. search needs) (λ c. search needs) part-place-under-requires (λ c. search needs) returns returns-2)
+part-place-spec =
+    tie.close
+    (tie.spec (λ c κs. search needs) (λ c. search needs) part-place-under-requires
+    (λ c. search needs) returns returns-2)

@@ -29,4 +29,7 @@ returns-2 c =
     (c .part-length .ensures)
 
 pub part-place-under-spec : {M : Type 1} → statement M
-part-place-under-spec = tie.close (tie.spec (λ c κs. search needs) (λ c κs. search needs) returns part-start-requires (λ c κs. search needs) returns-2)
+part-place-under-spec =
+    tie.close
+    (tie.spec (λ c κs. search needs) (λ c κs. search needs) returns part-start-requires
+    (λ c κs. search needs) returns-2)

@@ -60,4 +60,5 @@ returns-3 c =
 
 pub part-start-spec : {M : Type 1} → statement M
 part-start-spec =
-    tie.close (tie.spec (λ c κs. search needs) (λ c κs. search needs) add-result (λ c. search needs) (λ c. search needs) mul-result add-result-2 returns returns-2 returns-3)
+    tie.close (tie.spec (λ c κs. search needs) (λ c κs. search needs) add-result (λ c. search needs)
+    (λ c. search needs) mul-result add-result-2 returns returns-2 returns-3)

@@ -32,7 +32,8 @@ part-start-requires c κs = (c .before .before .before .before .pre, there c .1)
 
 -- The part lies within the seal.
 inside : (c : tie.After-part-length)
-    → c .before .part-start .result + c .part-length .result ≤ length (c .before .before .before .before .before .before .args .seal .now)
+    → c .before .part-start .result + c .part-length .result ≤ length
+    (c .before .before .before .before .before .before .args .seal .now)
 inside c =
     let e = c .before .before in
     let s = e .before .before .before .before in
@@ -57,4 +58,6 @@ returns-2 c =
 pub part-under-spec : {M : Type 1} → statement M
 part-under-spec =
     tie.close
-    (tie.spec (λ c κs. search needs) (λ c κs. search needs) (λ c. search needs) (λ c. search needs) (λ c. search needs) returns part-start-requires (λ c κs. search needs) add-end (λ c. search needs) (λ c. search needs) part-result-end-2 returns-2)
+    (tie.spec (λ c κs. search needs) (λ c κs. search needs) (λ c. search needs) (λ c. search needs)
+    (λ c. search needs) returns part-start-requires (λ c κs. search needs) add-end (λ c. search needs)
+    (λ c. search needs) part-result-end-2 returns-2)

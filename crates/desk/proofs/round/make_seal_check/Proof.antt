@@ -11,4 +11,7 @@ returns c making-done sealing-done =
     (c .before .before .before .before .before .seal .ensures) sealing-done _ (c .check .ensures)
 
 pub make-seal-check-spec : {M : Type 1} → statement M
-make-seal-check-spec = tie.close (tie.spec (λ c κs. search needs) (λ c κs. search needs) (λ c κs. search needs) (λ c. search needs) (λ c. search needs) (λ c. search needs) returns)
+make-seal-check-spec =
+    tie.close
+    (tie.spec (λ c κs. search needs) (λ c κs. search needs) (λ c κs. search needs) (λ c. search needs)
+    (λ c. search needs) (λ c. search needs) returns)

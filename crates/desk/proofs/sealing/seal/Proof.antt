@@ -15,7 +15,8 @@ seal-under-requires c κs =
 returns : tie.Need-returns
 returns c =
     let a = c .before .before .before .before .before .before .before .before .before .before .before .before .args in
-    seal-by (row-found (c .before .before .before .before .before .found .given .1) (c .before .before .before .before .before .before .before .find-row .ensures))
+    seal-by (row-found (c .before .before .before .before .before .found .given .1)
+    (c .before .before .before .before .before .before .before .find-row .ensures))
     (c .before .before .seal-under .ensures)
 
 returns-2 : tie.Need-returns-2
@@ -25,4 +26,7 @@ returns-2 c =
     (seal-unknown (a .secret .now) (a .message .now) (a .random .now) (a .out .now))
 
 pub seal-spec : {M : Type 1} → statement M
-seal-spec = tie.close (tie.spec (λ c κs. search needs) (λ c. search needs) seal-under-requires (λ c. search needs) (λ c. search needs) returns returns-2)
+seal-spec =
+    tie.close
+    (tie.spec (λ c κs. search needs) (λ c. search needs) seal-under-requires (λ c. search needs)
+    (λ c. search needs) returns returns-2)

@@ -14,8 +14,11 @@ returns c =
     let a = c .before .before .before .before .before .before .before .args in
     by-tests (eqb (a .secret) (a .row .secret) && (eqb (a .random) 0 || eqb (a .random) (a .row .n)))
     (messageFits (a .message)) (eqb (a .out) (a .row .seal)) true
-    (c .before .before .before .both .ensures ∙ ap (λ x. eqb (a .secret) (a .row .secret) && x) (c .before .before .before .before .either .ensures))
+    (c .before .before .before .both .ensures ∙ ap (λ x. eqb (a .secret) (a .row .secret) && x)
+    (c .before .before .before .before .either .ensures))
     (c .before .before .message-fits .ensures) refl (c .first-failed .ensures)
 
 pub seal-answer-spec : {M : Type 1} → statement M
-seal-answer-spec = tie.close (tie.spec (λ c κs. search needs) (λ c κs. search needs) (λ c κs. search needs) (λ c κs. search needs) returns)
+seal-answer-spec =
+    tie.close
+    (tie.spec (λ c κs. search needs) (λ c κs. search needs) (λ c κs. search needs) (λ c κs. search needs) returns)
