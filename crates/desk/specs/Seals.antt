@@ -31,5 +31,5 @@ module _ (row : Option Row) (secret message random out : Bytes) where
 
   pub record Sealed (answer : Answer) (out-after : Bytes) : Type 0 where
     pub answered : number answer ≡ sealAnswer
-    pub out-is : out-after ≡ settled sealAnswer row
-    (λ r. sealOf r (familyFor r) secret random (frame message) .result) out
+    pub out-is : out-after
+        ≡ settled sealAnswer row (λ r. sealOf r (familyFor r) secret random (frame message) .result) out

@@ -44,8 +44,8 @@ two c = long c .0 ∙ c .before .before .before .before .before .before .pre .le
 slice-aggregate-same : tie.Need-slice-aggregate-same
 slice-aggregate-same c =
     let w = c .before .before in
-    sym (length-take-le _ _ (omega
-    (arith, w .checked-root .ensures .1 .1, w .before .before .before .before .before .before .before .pre .fit .values)))
+    let fit = w .before .before .before .before .before .before .before .pre .fit in
+    sym (length-take-le _ _ (omega (arith, w .checked-root .ensures .1 .1, fit .values)))
 
 sub-same : tie.Need-sub-same
 sub-same c = omega (arith, two (c .before .before .before))

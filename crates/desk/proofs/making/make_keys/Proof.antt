@@ -15,10 +15,9 @@ make-keys-under-requires c κs =
 
 returns : tie.Need-returns
 returns c =
-    let a = c .before .before .before .before .before .before .before .before .before .before .before .before .before .before .before .before .args in
-    keys-by (row-found (c .before .before .before .before .before .before .before .before .found .given .1)
-    (c .before .before .before .before .before .before .before .before .before .before .find-row .ensures))
-    (c .before .before .before .before .make-keys-under .ensures)
+    let made = c .before .before .before .before in
+    keys-by (row-found (made .before .before .before .before .found .given .1) (made .before .before .before .before .before .before .find-row .ensures))
+    (made .make-keys-under .ensures)
 
 returns-2 : tie.Need-returns-2
 returns-2 c =

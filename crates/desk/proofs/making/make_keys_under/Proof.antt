@@ -18,12 +18,11 @@ keys-in-requires c κs =
 
 returns : tie.Need-returns
 returns c =
-    let a = c .before .before .before .before .before .before .before .before .before .before .before .before .before .before .before .args in
-    let z = sym (c .before .before .before .before .before .before .before .before .before .keys-answer .ensures) ∙
-    sym (c .before .before .before .before .before .before .before .before .number-of .ensures) ∙
-    c .before .before .before .before .before .before .before .if1 .taken in
+    let made = c .before .before .before .before in
+    let a = made .before .before .before .before .before .before .before .before .before .before .before .args in
+    let z = sym (made .before .before .before .before .before .keys-answer .ensures) ∙ sym (made .before .before .before .before .number-of .ensures) ∙ made .before .before .before .if1 .taken in
     keys-done (a .sk .now) (a .prf .now) (a .pk .now) (a .public .now) (a .secret .now) (ruledRow (a .row)) z
-    (c .before .before .before .before .keys-in .ensures .0) (c .before .before .before .before .keys-in .ensures .1)
+    (made .keys-in .ensures .0) (made .keys-in .ensures .1)
 
 returns-2 : tie.Need-returns-2
 returns-2 c =

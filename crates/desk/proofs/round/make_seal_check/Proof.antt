@@ -7,8 +7,11 @@ use Rattle.desk.proofs.round.make_seal_check.Tie as tie
 
 returns : tie.Need-returns
 returns c making-done sealing-done =
-    own-seals-accepted (c .before .before .before .before .before .before .before .before .before .before .before .before .before .before .before .before .before .before .before .before .before .before .before .args .set) _ _ _ _ _ _ _ _ (c .before .before .before .before .before .before .before .before .before .before .before .before .make-keys .ensures) making-done _ _ _ _ _
-    (c .before .before .before .before .before .seal .ensures) sealing-done _ (c .check .ensures)
+    let sealed = c .before .before .before .before .before in
+    let made = sealed .before .before .before .before .before .before .before in
+    let a = made .before .before .before .before .before .before .before .before .before .before .before .args in
+    own-seals-accepted (a .set) _ _ _ _ _ _ _ _ (made .make-keys .ensures) making-done _ _ _ _ _
+    (sealed .seal .ensures) sealing-done _ (c .check .ensures)
 
 pub make-seal-check-spec : {M : Type 1} → statement M
 make-seal-check-spec =

@@ -121,8 +121,8 @@ loop-again c =
       search needs,
       part-length (l .at) step (l .out) ys (room turn) long ∙ l .inv .4,
       rw (part-written (l .at) step (l .out) ys (room turn) long)
-          (layers-turn (hashesOf (a .kit) (a .seed .now)) (a .hp) (a .sk .now) (a .d - 1) (l .j) (l .t) (l .k) (a .size) n
-          (l .v) (take (l .at) (l .out)) ys (take n (up .result)) (turn .loop-test .taken) (s .pre .0 .leaves)
+          (layers-turn (hashesOf (a .kit) (a .seed .now)) (a .hp) (a .sk .now) (a .d - 1) (l .j) (l .t) (l .k) (a .size)
+          n (l .v) (take (l .at) (l .out)) ys (take n (up .result)) (turn .loop-test .taken) (s .pre .0 .leaves)
           (up .ensures .0) (up .ensures .1) (l .inv .5)),
     )
 
