@@ -6,3 +6,4 @@ pub mod Checks
 pub mod Parts
 pub mod Digits
 pub mod Table
+pub mod Round

@@ -1,16 +1,17 @@
 // A round: a key pair is made, a message sealed with it, and the seal checked under it.
-ghost use mathlib.Core.Path.{_≡_};
-ghost use Rattle.desk.specs.Answers.{number};
+ghost use Rattle.rules.specs.Sets.{rowOf};
+ghost use Rattle.desk.specs.Round.{Rounded};
 use crate::answers::Answer;
 use crate::checking::check;
 use crate::making::make_keys;
 use crate::sealing::seal;
 
-// The three answers.
+// The three answers, and the F calls of the check.
 pub struct Round {
     pub made: Answer,
     pub sealed: Answer,
     pub checked: Answer,
+    pub calls: u32,
 }
 
 // In the room lent. Where key making and sealing answer 0, so does the check.
@@ -25,7 +26,9 @@ pub fn make_seal_check(
     secret: &mut [u8],
     out: &mut [u8],
 ) -> Round
-    ensures { λ r. ⌜ (number (r .made) ≡ 0 → number (r .sealed) ≡ 0 → number (r .checked) ≡ 0) ⌝ }
+    ensures { λ r. ⌜ Rounded (rowOf set) (now («secret_seed» .entry)) (now («prf_seed» .entry))
+        (now («public_seed» .entry)) (now (message .entry)) (now (random .entry)) (now (public .entry))
+        (now (secret .entry)) (now (out .entry)) r (now (public .exit)) (now (secret .exit)) (now (out .exit)) ⌝ }
 {
     let made = make_keys(set, secret_seed, prf_seed, public_seed, public, secret);
     let sealed = seal(set, secret, message, random, out);
@@ -35,5 +38,6 @@ pub fn make_seal_check(
         made: made,
         sealed: sealed,
         checked: checked,
+        calls: verdict.calls,
     }
 }

@@ -6,12 +6,17 @@ use Rattle.desk.proofs.round.make_seal_check.Statement.{statement}
 use Rattle.desk.proofs.round.make_seal_check.Tie as tie
 
 returns : tie.Need-returns
-returns c making-done sealing-done =
+returns c =
     let sealed = c .before .before .before .before .before in
     let made = sealed .before .before .before .before .before .before .before in
     let a = made .before .before .before .before .before .before .before .before .before .before .before .args in
-    own-seals-accepted (a .set) _ _ _ _ _ _ _ _ (made .make-keys .ensures) making-done _ _ _ _ _
-    (sealed .seal .ensures) sealing-done _ (c .check .ensures)
+    record {
+      keys = made .make-keys .ensures;
+      seal = sealed .seal .ensures;
+      check = c .check .ensures;
+      accepted = λ y z. own-seals-accepted (a .set) _ _ _ _ _ _ _ _ (made .make-keys .ensures) y _ _ _ _ _
+          (sealed .seal .ensures) z _ (c .check .ensures);
+    }
 
 pub make-seal-check-spec : {M : Type 1} → statement M
 make-seal-check-spec =
