@@ -8,8 +8,8 @@
 //   digits SET VALUE ROOM                   the answer, the list's numbers, a byte each
 //
 // SEED, SECRET, PUBLIC, MESSAGE, RANDOM, SEAL and VALUE are bytes (bytes.rt); SET, NUMBER and ROOM are decimal numbers,
-// and a ROOM is the length of an output lent, which holds zeros before. A line that starts with `#` is copied, and any
-// other is answered `bad line`.
+// and a ROOM is the length of an output lent, which holds zeros before. A line whose first field is `#` is copied; any
+// other, or one with more bytes than its buffer takes, is answered `bad line`.
 mod bytes;
 mod cases;
 mod fields;
@@ -62,7 +62,7 @@ fn all(text: &[u8]) {
 }
 
 fn main() {
-    let mut text = [0u8; 131072];
+    let mut text = [0u8; 262144];
     let n = io::read_full(STDIN_FILENO, &mut text);
     all(&text[..n]);
 }
