@@ -39,14 +39,14 @@ pub fn next(line: &[u8], at: usize) -> Span
     }
 }
 
-// A number read, and where the next field starts.
-pub struct Value {
-    pub good: bool,
-    pub value: u32,
-    pub after: usize,
+// The value of a decimal digit.
+fn ten(digit: u8) -> u32
+    ensures { λ r. ⌜ r < 10 ⌝ }
+{
+    ((digit % 16) % 10) as u32
 }
 
-// A decimal number of one to five digits.
+// What a decimal number of one to five digits says.
 pub struct Figure {
     pub good: bool,
     pub value: u32,
@@ -80,11 +80,11 @@ pub fn decimal(digits: &[u8]) -> Figure
     }
 }
 
-// The value of a decimal digit.
-fn ten(digit: u8) -> u32
-    ensures { λ r. ⌜ r < 10 ⌝ }
-{
-    ((digit % 16) % 10) as u32
+// A number read, and where the next field starts.
+pub struct Value {
+    pub good: bool,
+    pub value: u32,
+    pub after: usize,
 }
 
 pub fn number(line: &[u8], at: usize) -> Value

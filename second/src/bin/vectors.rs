@@ -56,10 +56,9 @@ fn smallest(reasons: &[(u32, bool)]) -> u32 {
 }
 
 fn keys(set: usize, seeds: &[Vec<u8>; 3], public: usize, secret: usize) -> String {
-    let n = |row: &Set| row.params.n;
     let refusal = known(set).map_or(1, |row| {
         smallest(&[
-            (2, seeds.iter().any(|seed| seed.len() != n(row))),
+            (2, seeds.iter().any(|seed| seed.len() != row.params.n)),
             (4, public != row.public_key || secret != row.secret_key),
         ])
     });
