@@ -16,7 +16,8 @@ make-keys-under-requires c κs =
 returns : tie.Need-returns
 returns c =
     let made = c .before .before .before .before in
-    keys-by (row-found (made .before .before .before .before .found .given .1) (made .before .before .before .before .before .before .find-row .ensures))
+    let found = made .before .before .before .before in
+    keys-by (row-found (found .found .given .1) (found .before .before .find-row .ensures))
     (made .make-keys-under .ensures)
 
 returns-2 : tie.Need-returns-2

@@ -20,7 +20,8 @@ returns : tie.Need-returns
 returns c =
     let made = c .before .before .before .before in
     let a = made .before .before .before .before .before .before .before .before .before .before .before .args in
-    let z = sym (made .before .before .before .before .before .keys-answer .ensures) ∙ sym (made .before .before .before .before .number-of .ensures) ∙ made .before .before .before .if1 .taken in
+    let t = made .before .before .before in
+    let z = sym (t .before .before .keys-answer .ensures) ∙ sym (t .before .number-of .ensures) ∙ t .if1 .taken in
     keys-done (a .sk .now) (a .prf .now) (a .pk .now) (a .public .now) (a .secret .now) (ruledRow (a .row)) z
     (made .keys-in .ensures .0) (made .keys-in .ensures .1)
 
