@@ -1,9 +1,11 @@
-//! The C example, compiled by gcc over the header and the library, shows what the binding gives.
+//! The C example, compiled over the header and the library by the compiler that CC names, or gcc, shows what the
+//! binding gives.
 
 mod common;
 
-use common::workplace::Workplace;
+use common::workplace::{program, Workplace};
 use skimdral::{check, digits, make_keys, part_range, seal, Verdict};
+use std::env;
 use std::path::Path;
 use std::process::Command;
 
@@ -24,30 +26,34 @@ fn expected() -> String {
     lines.join("\n")
 }
 
+fn compiler() -> Command {
+    Command::new(env::var_os("CC").unwrap_or_else(|| "gcc".into()))
+}
+
 #[test]
 fn the_example_runs() {
     let work = Workplace::new("the_example_runs");
     let package = Path::new(env!("CARGO_MANIFEST_DIR"));
-    let program = work.at("seal");
-    let compiled = Command::new("gcc")
+    let example = work.at("seal");
+    let compiled = compiler()
         .args(["-std=c11", "-O2", "-Wall", "-Wextra", "-Wpedantic", "-Werror", "-Iinclude", "example/seal.c"])
         .args(["../target/staticlib/libface.a", "-o"])
-        .arg(&program)
+        .arg(&example)
         .current_dir(package)
         .output()
-        .expect("gcc runs");
+        .expect("the C compiler runs");
     assert!(compiled.status.success(), "{}", String::from_utf8_lossy(&compiled.stderr));
-    let run = Command::new(&program).output().expect("the example runs");
+    let run = program(&example).output().expect("the example runs");
     assert_eq!((run.status.code(), String::from_utf8_lossy(&run.stdout).as_ref()), (Some(0), expected().as_str()));
 }
 
 /// The header needs nothing before it.
 #[test]
 fn the_header_compiles_alone() {
-    let compiled = Command::new("gcc")
+    let compiled = compiler()
         .args(["-std=c11", "-Wall", "-Wextra", "-Wpedantic", "-Werror", "-fsyntax-only", "include/skimdral.h"])
         .current_dir(env!("CARGO_MANIFEST_DIR"))
         .output()
-        .expect("gcc runs");
+        .expect("the C compiler runs");
     assert!(compiled.status.success(), "{}", String::from_utf8_lossy(&compiled.stderr));
 }

@@ -5,9 +5,9 @@ use mathlib.Core.List.{List, _++_, append-assoc}
 use Prim.Native.Nat.{ℕ}
 use lib.ListN.{length, take}
 use Rattle.lists.proofs.Parts.{front-part}
-use Rattle.hash.specs.Shake.{rate256, shake256}
-use Rattle.hash.specs.Stream.{Sponge, empty, feed, finish, draw}
-use Rattle.hash.proofs.Laws.{shaken, feed-append}
+use Rattle.shake.specs.Shake.{rate256, shake256}
+use Rattle.shake.specs.Stream.{Sponge, empty, feed, finish, draw}
+use Rattle.shake.proofs.Laws.{shaken, feed-append}
 use Rattle.rules.specs.Places.{Bytes}
 
 -- One more piece.

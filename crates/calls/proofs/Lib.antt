@@ -1,2 +1,1 @@
-pub mod AddressLaws
 pub mod HashLaws

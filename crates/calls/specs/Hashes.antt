@@ -1,11 +1,12 @@
 -- The hash family of the code: the rules' SHAKE family over SHAKE256.
 -- Assumes nothing.
 use Prim.Native.Nat.{ℕ}
-use Rattle.hash.specs.Shake.{shake256}
-use Rattle.hash.proofs.Laws.{length-shake256, below-shake256}
+use Rattle.shake.specs.Shake.{shake256}
+use Rattle.shake.proofs.Laws.{length-shake256, below-shake256}
 use Rattle.rules.specs.Places.{Bytes, IsBytes}
 use Rattle.rules.specs.Calls.{Family, shakeFamily, Hashes, under}
-use Rattle.calls.specs.declared.hashes.Kit.{Kit}
+use Rattle.rules.specs.Sets.{Row}
+use Rattle.calls.specs.declared.Kit.{Kit}
 
 pub shake256-sized : (x : Bytes) (n : ℕ) → IsBytes n (shake256 x n)
 shake256-sized x n = record { long = length-shake256 x n; small = below-shake256 x n }
@@ -20,3 +21,7 @@ familyOf kit = family (kit .n) (kit .m)
 -- The functions that take an address, at a public seed.
 abbrev pub hashesOf : Kit → (seed : Bytes) → Hashes
 hashesOf kit seed = under (familyOf kit) seed
+
+-- The family of a row.
+abbrev pub familyFor : (r : Row) → Family (r .n) (r .m)
+familyFor r = family (r .n) (r .m)

@@ -1,4 +1,154 @@
-// Rows of sets, addresses and the hash calls of FIPS 205. Above this crate nobody sees which hash it is.
-pub mod addresses;
-pub mod hashes;
-pub mod rows;
+// The hash calls (FIPS 205, sections 4.1 and 11). Callers go by the rules' family and see no hash.
+ghost use mathlib.Core.Path.{_≡_};
+ghost use mathlib.Core.List.{_++_};
+ghost use Prim.Native.Nat.{_≤_};
+ghost use lib.ListN.{length, take};
+ghost use Rattle.shake.specs.Shake.{rate256, shake256};
+ghost use Rattle.shake.specs.Stream.{sponge, feed, finish, draw};
+ghost use Rattle.rules.specs.Calls.{Function};
+ghost use Rattle.addresses.specs.Addresses.{bytesOf};
+ghost use Rattle.calls.specs.Hashes.{familyOf};
+use addresses::Address;
+use addresses::address_bytes;
+
+// The hash functions of a set, for values of n bytes and digests of m bytes.
+pub struct Kit {
+    pub n: usize,
+    pub m: usize,
+}
+
+// Two pieces, one after the other.
+fn absorb_two(s: &mut [u64; 25], at: usize, a: &[u8], b: &[u8]) -> usize
+    ensures { λ r. ⌜ sponge (now (s .exit)) r
+        ≡ feed rate256 (sponge (now (s .entry)) at) (now (a .entry) ++ now (b .entry)) ⌝ }
+{
+    let p = shake::absorb(s, at, a);
+    shake::absorb(s, p, b)
+}
+
+// The message ends, and the whole of out is filled.
+fn end(s: &mut [u64; 25], at: usize, out: &mut [u8])
+    ensures { λ _. ⌜ now (out .exit)
+        ≡ draw rate256 (length (now (out .entry))) (finish rate256 (sponge (now (s .entry)) at)) ⌝ }
+{
+    let p = shake::finish(s, at);
+    let _q = shake::squeeze(s, p, out);
+}
+
+// F in place.
+pub fn f_in(kit: Kit, seed: &[u8], adrs: Address, io: &mut [u8])
+    requires { ⌜ length (now io) ≡ kit .n ⌝ }
+    ensures { λ _. ⌜ now (io .exit)
+        ≡ familyOf kit .hash Function.F (now (seed .entry)) (bytesOf adrs) (now (io .entry)) ⌝ }
+{
+    let b = address_bytes(adrs);
+    let mut s = [0u64; 25];
+    let p = absorb_two(&mut s, 0, seed, &b);
+    let q = shake::absorb(&mut s, p, io);
+    end(&mut s, q, io);
+}
+
+// A call with one input.
+fn call(seed: &[u8], adrs: Address, input: &[u8], out: &mut [u8])
+    ensures { λ _. ⌜ now (out .exit)
+        ≡ shake256 (now (seed .entry) ++ (bytesOf adrs ++ now (input .entry))) (length (now (out .entry))) ⌝ }
+{
+    let b = address_bytes(adrs);
+    let mut s = [0u64; 25];
+    let p = absorb_two(&mut s, 0, seed, &b);
+    let q = shake::absorb(&mut s, p, input);
+    end(&mut s, q, out);
+}
+
+// A secret value.
+pub fn secret_in(kit: Kit, seed: &[u8], adrs: Address, sk: &[u8], out: &mut [u8])
+    requires { ⌜ length (now out) ≡ kit .n ⌝ }
+    ensures { λ _. ⌜ now (out .exit)
+        ≡ familyOf kit .hash Function.PRF (now (seed .entry)) (bytesOf adrs) (now (sk .entry)) ⌝ }
+{
+    call(seed, adrs, sk, out);
+}
+
+// A call with one input, by value.
+fn call_value(n: usize, seed: &[u8], adrs: Address, input: &[u8]) -> [u8; 32]
+    requires { ⌜ n ≤ 32 ⌝ }
+    ensures { λ r. ⌜ take n r ≡ shake256 (now (seed .entry) ++ (bytesOf adrs ++ now (input .entry))) n ⌝ }
+{
+    let mut out = [0u8; 32];
+    call(seed, adrs, input, &mut out[0..n]);
+    out
+}
+
+// F of a value.
+pub fn f(kit: Kit, seed: &[u8], adrs: Address, input: &[u8]) -> [u8; 32]
+    requires { ⌜ kit .n ≤ 32 ⌝ }
+    ensures { λ r. ⌜ take (kit .n) r
+        ≡ familyOf kit .hash Function.F (now (seed .entry)) (bytesOf adrs) (now (input .entry)) ⌝ }
+{
+    call_value(kit.n, seed, adrs, input)
+}
+
+// T of joined values.
+pub fn t(kit: Kit, seed: &[u8], adrs: Address, input: &[u8]) -> [u8; 32]
+    requires { ⌜ kit .n ≤ 32 ⌝ }
+    ensures { λ r. ⌜ take (kit .n) r
+        ≡ familyOf kit .hash Function.T (now (seed .entry)) (bytesOf adrs) (now (input .entry)) ⌝ }
+{
+    call_value(kit.n, seed, adrs, input)
+}
+
+// H of two values.
+pub fn h(kit: Kit, seed: &[u8], adrs: Address, left: &[u8], right: &[u8]) -> [u8; 32]
+    requires { ⌜ kit .n ≤ 32 ⌝ }
+    ensures { λ r. ⌜ take (kit .n) r
+        ≡ familyOf kit .hash Function.H (now (seed .entry)) (bytesOf adrs) (now (left .entry) ++ now (right .entry)) ⌝ }
+{
+    let n = kit.n;
+    let b = address_bytes(adrs);
+    let mut s = [0u64; 25];
+    let p = absorb_two(&mut s, 0, seed, &b);
+    let q = absorb_two(&mut s, p, left, right);
+    let mut out = [0u8; 32];
+    end(&mut s, q, &mut out[0..n]);
+    out
+}
+
+// The randomizer R. The framed message is what precedes the message, and then the message.
+pub fn randomizer_in(
+    kit: Kit,
+    prf: &[u8],
+    mixed: &[u8],
+    before: &[u8],
+    message: &[u8],
+    out: &mut [u8],
+)
+    requires { ⌜ length (now out) ≡ kit .n ⌝ }
+    ensures { λ _. ⌜ now (out .exit)
+        ≡ familyOf kit .PRFmsg (now (prf .entry)) (now (mixed .entry)) (now (before .entry) ++ now (message .entry)) ⌝ }
+{
+    let mut s = [0u64; 25];
+    let p = absorb_two(&mut s, 0, prf, mixed);
+    let q = absorb_two(&mut s, p, before, message);
+    end(&mut s, q, out);
+}
+
+// The digest of the framed message.
+pub fn digest_in(
+    kit: Kit,
+    r: &[u8],
+    seed: &[u8],
+    root: &[u8],
+    before: &[u8],
+    message: &[u8],
+    out: &mut [u8],
+)
+    requires { ⌜ length (now out) ≡ kit .m ⌝ }
+    ensures { λ _. ⌜ now (out .exit) ≡ familyOf kit .Hmsg (now (r .entry)) (now (seed .entry)) (now (root .entry))
+        (now (before .entry) ++ now (message .entry)) ⌝ }
+{
+    let mut s = [0u64; 25];
+    let p = absorb_two(&mut s, 0, r, seed);
+    let q = shake::absorb(&mut s, p, root);
+    let t = absorb_two(&mut s, q, before, message);
+    end(&mut s, t, out);
+}

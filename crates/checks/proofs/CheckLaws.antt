@@ -13,16 +13,17 @@ use Rattle.rules.specs.Places.{Bytes}
 use Rattle.rules.specs.Calls.{F, of, Family, Hashes, under, Run, _>>=_}
 use Rattle.rules.specs.Layers.{layersRoot}
 use Rattle.rules.specs.Forest.{treeBytes, forestBytes, forestRoot}
-use Rattle.rules.specs.Digest.{Row, Pointed, pointed}
+use Rattle.rules.specs.Sets.{Row}
+use Rattle.rules.specs.Digest.{Pointed, pointed}
 use Rattle.rules.specs.Keys.{piece}
 use Rattle.rules.specs.Seal.{frame, digestOf, partStart, partLength, part}
 use Rattle.rules.specs.Check.{layersPart, rootAt, checkedRoot}
-use Rattle.rules.specs.Counts.{is, count}
-use Rattle.rules.proofs.CountLaws.{count-append}
-use Rattle.points.specs.Ready.{Ready}
-use Rattle.points.proofs.SizeLaws.{forestSize, layerSize, seal-size, layers-start, first-piece, rest-piece}
-use Rattle.walks.proofs.WalkLaws.{forest-calls}
-use Rattle.walks.proofs.UpLaws.{up-calls, up-most}
+use Rattle.counts.specs.Counts.{is, count}
+use Rattle.counts.proofs.CountLaws.{count-append}
+use Rattle.rows.specs.Ready.{Ready}
+use Rattle.rows.proofs.SizeLaws.{forestSize, layerSize, seal-size, layers-start, first-piece, rest-piece}
+use Rattle.forest_walks.proofs.ForestLaws.{forest-calls}
+use Rattle.layer_walks.proofs.UpLaws.{up-calls, up-most}
 
 -- ---- The two parts that are walked
 

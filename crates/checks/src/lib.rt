@@ -4,34 +4,35 @@ ghost use lib.ListN.{length, take};
 ghost use Rattle.lists.specs.Below.{Below};
 ghost use Prim.Native.Nat.{_^_};
 ghost use Rattle.rules.specs.Calls.{Kind, Function};
-ghost use Rattle.rules.specs.Counts.{count};
+ghost use Rattle.counts.specs.Counts.{count};
 ghost use Rattle.rules.specs.Seal.{frame};
 ghost use Rattle.rules.specs.Check.{rootAt, checkedRoot};
-ghost use Rattle.calls.specs.Rows.{ruledRow};
-ghost use Rattle.points.specs.Ready.{Ready, familyFor};
+ghost use Rattle.rows.specs.Rows.{ruledRow};
+ghost use Rattle.rows.specs.Ready.{Ready};
+ghost use Rattle.calls.specs.Hashes.{familyFor};
 ghost use Rattle.points.specs.At.{at};
-use calls::hashes::Kit;
-use calls::rows::Row;
-use chains::Walked;
+use calls::Kit;
+use rows::Row;
+use climbs::Walked;
 use points::Pointed;
 use points::aim;
-use walks::forest::forest_root;
-use walks::layers::layers_root;
+use forest_walks::forest_root;
+use layer_walks::layers_root;
 
 // The root at the place pointed to (lines 14 to 17).
-pub fn root_at(row: Row, seed: &[u8], place: Pointed, indices: &[u32], seal: &[u8]) -> Walked
+fn root_at(row: Row, seed: &[u8], pointed: Pointed, indices: &[u32], seal: &[u8]) -> Walked
     requires { ⌜ Ready (ruledRow row) × (length (now seal) ≡ row .seal) ⌝ }
     requires { ⌜ (length (now indices) ≡ row .k) × Below (2 ^ row .a) (now indices) ⌝ }
     ensures { λ r. ⌜ take (row .n) (r .value) ≡ rootAt (ruledRow row) (familyFor (ruledRow row)) (now (seed .entry))
-        (now (seal .entry)) (at place (now (indices .entry))) .result ⌝ }
+        (now (seal .entry)) (at pointed (now (indices .entry))) .result ⌝ }
     ensures { λ r. ⌜ r .calls ≡ count (Kind.of Function.F) (rootAt (ruledRow row) (familyFor (ruledRow row))
-        (now (seed .entry)) (now (seal .entry)) (at place (now (indices .entry))) .calls) ⌝ }
+        (now (seed .entry)) (now (seal .entry)) (at pointed (now (indices .entry))) .calls) ⌝ }
     ensures { λ r. ⌜ length (r .value) ≡ 32 ⌝ }
 {
     let n = row.n;
     let kit = Kit { n: n, m: row.m };
-    let tree = place.tree;
-    let leaf = place.leaf;
+    let tree = pointed.tree;
+    let leaf = pointed.leaf;
     let end = n + (row.k as usize) * (n + (row.a as usize) * n);
     let low = forest_root(kit, seed, tree, leaf, row.a, indices, &seal[n..end]);
     let below = low.calls;
@@ -63,7 +64,7 @@ fn checked_root_over(
     ensures { λ r. ⌜ length (r .value) ≡ 32 ⌝ }
 {
     let n = row.n;
-    let place = aim(
+    let pointed = aim(
         row,
         &seal[0..n],
         &public[0..n],
@@ -71,7 +72,7 @@ fn checked_root_over(
         message,
         indices,
     );
-    root_at(row, &public[0..n], place, indices, seal)
+    root_at(row, &public[0..n], pointed, indices, seal)
 }
 
 // The root that a seal of a message leads to under a public key.

@@ -12,7 +12,7 @@ fn wide(x: u8) -> u64
 }
 
 // The big-endian number of at most eight bytes (FIPS 205, algorithm 2).
-pub fn number(x: &[u8]) -> u64
+pub fn to_int(x: &[u8]) -> u64
     requires { ⌜ length (now x) ≤ 8 ⌝ }
     ensures { λ r. ⌜ r ≡ toInt (now (x .entry)) ⌝ }
 {
@@ -33,7 +33,7 @@ fn digit(x: &[u8], skip: u32, width: u32) -> u32
     let end = skip + width;
     let bytes = (end + 7) / 8;
     let to = bytes as usize;
-    let front = number(&x[0..to]) >> (bytes * 8 - end);
+    let front = to_int(&x[0..to]) >> (bytes * 8 - end);
     (front % (1 << width)) as u32
 }
 
@@ -61,7 +61,7 @@ fn left(d: u32) -> u32
 }
 
 // The steps that chains have left from the positions `ds`: of a value's own digits, the checksum.
-pub fn steps_left(ds: &[u32]) -> u32
+fn steps_left(ds: &[u32]) -> u32
     requires { ⌜ 15 * length (now ds) < 2 ^ 32 ⌝ }
     ensures { λ r. ⌜ r ≡ steps (now (ds .entry)) ⌝ }
 {

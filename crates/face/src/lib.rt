@@ -1,18 +1,18 @@
 // What programs in other languages call: the desk's operations, with answers as the paper's numbers.
 ghost use Rattle.rules.specs.Sets.{rowOf};
 ghost use mathlib.Core.Path.{_≡_};
-ghost use Rattle.desk.specs.Keys.{KeysMade};
-ghost use Rattle.desk.specs.Seals.{Sealed};
-ghost use Rattle.desk.specs.Parts.{partAnswer, startGiven, lengthGiven};
-ghost use Rattle.desk.specs.Digits.{DigitsRead};
+ghost use Rattle.making.specs.Keys.{KeysMade};
+ghost use Rattle.sealing.specs.Seals.{Sealed};
+ghost use Rattle.part_reading.specs.Parts.{partAnswer, startGiven, lengthGiven};
+ghost use Rattle.digit_reading.specs.Digits.{DigitsRead};
 ghost use Rattle.face.specs.Numbered.{Numbered, CheckedAs};
-use desk::answers::number_of;
-use desk::checking::check;
-use desk::digit_reading::chain_digits;
-use desk::making::make_keys;
-use desk::part_reading::part_answer;
-use desk::part_reading::part_place;
-use desk::sealing::seal as seal_message;
+use answers::number_of;
+use checking::check;
+use digit_reading::chain_digits;
+use making::make_keys;
+use part_reading::part_answer;
+use part_reading::part_extent;
+use sealing::seal as seal_message;
 
 #[no_mangle]
 pub extern "C" fn skimdral_make_keys(
@@ -84,9 +84,9 @@ pub extern "C" fn skimdral_part(
     ensures { λ _. ⌜ now (start .exit) ≡ startGiven (rowOf set) (now (seal .entry)) number ⌝ }
     ensures { λ _. ⌜ now (length .exit) ≡ lengthGiven (rowOf set) (now (seal .entry)) number ⌝ }
 {
-    let place = part_place(set, seal, number);
-    *start = place.start;
-    *length = place.length;
+    let extent = part_extent(set, seal, number);
+    *start = extent.start;
+    *length = extent.length;
     let answer = part_answer(set, seal, number);
     number_of(answer)
 }

@@ -3,8 +3,7 @@
 ghost use mathlib.Core.Path.{_≡_};
 ghost use Prim.Native.Nat.{_≤_, _<_};
 ghost use lib.ListN.{length};
-ghost use Rattle.hash.specs.Shake.{shake256};
-use hash::shake256;
+ghost use Rattle.shake.specs.Shake.{shake256};
 use libc::STDOUT_FILENO;
 
 // Byte i of every message.
@@ -40,12 +39,12 @@ fn pieces(m: &[u8], out: &mut [u8])
     let mut n: usize = 1;
     while i < m.len() {
         let e = end(i, n, m.len());
-        at = shake256::absorb(&mut s, at, &m[i..e]);
+        at = shake::absorb(&mut s, at, &m[i..e]);
         i = e;
         n += 1;
     }
-    let q = shake256::finish(&mut s, at);
-    let r = shake256::squeeze(&mut s, q, out);
+    let q = shake::finish(&mut s, at);
+    let r = shake::squeeze(&mut s, q, out);
 }
 
 // A line: the message's length, the output's, and the output.

@@ -35,6 +35,12 @@ module _ {A : Type 0} where
       ap (λ (r : List A). take m l ++ (ys ++ r)) (drop-of-length-le (drop m l) (le-of-eq (length-drop m l)))
       ∙ ap (λ (r : List A). take m l ++ r) (append-nil ys)
 
+  -- A list whose first m elements and whose rest were lent, one after the other, is what they came back as.
+  pub both-written : (m : ℕ) (l xs ys : List A) → length xs ≡ m
+      → putMid m (length (putMid 0 (m - 0) l xs) - m) (putMid 0 (m - 0) l xs) ys ≡ xs ++ ys
+  both-written m l xs ys e =
+      rest-written m (putMid 0 (m - 0) l xs) ys ∙ ap (λ (x : List A). x ++ ys) (front-written m l xs e)
+
   -- A part of n elements at `at` that was lent and came back as ys: what precedes it, and then ys.
   pub part-written : (at n : ℕ) (l ys : List A) → at + n ≤ length l → length ys ≡ n
       → take (at + n) (putMid at (at + n - at) l ys) ≡ take at l ++ ys

@@ -16,10 +16,11 @@ use Rattle.rules.specs.Digits.{toInt, base2b}
 use Rattle.rules.specs.Places.{Bytes}
 use Rattle.rules.specs.Calls.{Family}
 use Rattle.rules.specs.Seal.{frame, digestOf}
-use Rattle.rules.specs.Digest.{Row, Legal, Pointed, bytesFor, lastBits, pointed}
+use Rattle.rules.specs.Sets.{Row, Legal, bytesFor}
+use Rattle.rules.specs.Digest.{Pointed, lastBits, pointed}
 use Rattle.rules.proofs.DigestLaws.{Placed, placed}
 use Rattle.rules.proofs.ReadLaws.{value-fits}
-use Rattle.points.specs.Ready.{Ready}
+use Rattle.rows.specs.Ready.{Ready}
 
 -- ---- The last bits of a number
 

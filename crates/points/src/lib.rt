@@ -4,14 +4,15 @@ ghost use Prim.Native.Nat.{_≤_};
 ghost use lib.ListN.{length};
 ghost use Rattle.rules.specs.Digest.{lastBits, pointed};
 ghost use Rattle.rules.specs.Seal.{frame, digestOf};
-ghost use Rattle.calls.specs.Rows.{ruledRow};
+ghost use Rattle.rows.specs.Rows.{ruledRow};
 ghost use Rattle.points.specs.At.{at};
-ghost use Rattle.points.specs.Ready.{Ready, familyFor};
-use calls::hashes::Kit;
-use calls::hashes::digest_in;
-use calls::rows::Row;
+ghost use Rattle.rows.specs.Ready.{Ready};
+ghost use Rattle.calls.specs.Hashes.{familyFor};
+use calls::Kit;
+use calls::digest_in;
+use rows::Row;
 use digits::digits;
-use digits::number;
+use digits::to_int;
 
 // The tree in layer 0, and the leaf in it.
 pub struct Pointed {
@@ -24,12 +25,12 @@ fn last_bits(bits: u32, x: &[u8]) -> u64
     requires { ⌜ length (now x) ≤ 8 ⌝ }
     ensures { λ r. ⌜ r ≡ lastBits bits (now (x .entry)) ⌝ }
 {
-    let v = number(x);
+    let v = to_int(x);
     if bits < 64 { v % (1u64 << bits) } else { v }
 }
 
 // The tree and the leaf that a digest points to; the forest's digits are written to the list lent.
-pub fn point(row: Row, digest: &[u8], indices: &mut [u32]) -> Pointed
+fn point(row: Row, digest: &[u8], indices: &mut [u32]) -> Pointed
     requires { ⌜ Ready (ruledRow row) × (length (now digest) ≡ row .m) × (length (now indices) ≡ row .k) ⌝ }
     ensures { λ r. ⌜ at r (now (indices .exit)) ≡ pointed (ruledRow row) (now (digest .entry)) ⌝ }
 {

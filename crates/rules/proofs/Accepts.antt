@@ -9,12 +9,12 @@ use native.Mathlib.Omega.{arith}
 use lib.ListN.{length, length-append}
 use Rattle.rules.specs.Places.{Bytes, IsBytes}
 use Rattle.rules.specs.Calls.{Family, under, Run, _>>=_}
-use Rattle.rules.specs.Layers.{ownRoot}
-use Rattle.rules.specs.Digest.{Row, Legal, Pointed, pointed}
+use Rattle.rules.specs.Layers.{ownRoot, treeAt, leafAt}
+use Rattle.rules.specs.Sets.{Row, Legal}
+use Rattle.rules.specs.Digest.{Pointed, pointed}
 use Rattle.rules.specs.Keys.{piece, keyRoot, publicKey, secretKey}
-use Rattle.rules.specs.Seal.{mixedIn, randomizerOf, digestOf, written, sealWith, sealOf, part}
+use Rattle.rules.specs.Seal.{mixedIn, randomizerOf, digestOf, written, sealWith, sealOf, part, heldValue}
 use Rattle.rules.specs.Check.{layersPart, rootAt, checkedRoot, Accepted}
-use Rattle.rules.specs.Findings.{treeAt, leafAt, heldValue}
 use Rattle.rules.proofs.LayerLaws.{layers-accept}
 use Rattle.rules.proofs.ForestLaws.{forest-accepts}
 use Rattle.rules.proofs.DigestLaws.{Placed, placed}

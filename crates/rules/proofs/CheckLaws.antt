@@ -5,13 +5,13 @@ use Prim.Native.Nat.{ℕ, zero, suc, _-_}
 use lib.ListN.{drop}
 use Rattle.rules.specs.Places.{Bytes, IsBytes}
 use Rattle.rules.specs.Calls.{Family, under, Run, _>>=_}
-use Rattle.rules.specs.Layers.{layerRoot, layersRoot}
+use Rattle.rules.specs.Layers.{layerRoot, layersRoot, treeAt, leafAt}
 use Rattle.rules.specs.Forest.{forestRoot}
-use Rattle.rules.specs.Digest.{Row, Pointed, pointed}
+use Rattle.rules.specs.Sets.{Row}
+use Rattle.rules.specs.Digest.{Pointed, pointed}
 use Rattle.rules.specs.Keys.{piece}
 use Rattle.rules.specs.Seal.{digestOf, partStart, partLength, part}
-use Rattle.rules.specs.Check.{layersPart, rootAt, checkedRoot}
-use Rattle.rules.specs.Findings.{treeAt, leafAt, checkedValue}
+use Rattle.rules.specs.Check.{layersPart, rootAt, checkedRoot, checkedValue}
 use Rattle.rules.proofs.LayerLaws.{layerRoot-sized}
 use Rattle.rules.proofs.ForestLaws.{forestRoot-sized}
 use Rattle.rules.proofs.SealLaws.{next-part}

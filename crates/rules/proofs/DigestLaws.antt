@@ -9,8 +9,9 @@ use lib.ListN.{length}
 use lib.Pow.{pow-pos, shr-lt}
 use Rattle.lists.specs.Below.{Below}
 use Rattle.rules.specs.Places.{Bytes}
-use Rattle.rules.specs.Digest.{Row, Legal, Pointed, lastBits, pointed}
-use Rattle.rules.specs.Findings.{treeAt, leafAt}
+use Rattle.rules.specs.Sets.{Row, Legal}
+use Rattle.rules.specs.Digest.{Pointed, lastBits, pointed}
+use Rattle.rules.specs.Layers.{treeAt, leafAt}
 use Rattle.rules.proofs.DigitLaws.{length-base2b, base2b-below}
 
 -- A tree of layer 0, a leaf of it, and a digit of a bits for each of the k trees of the forest.

@@ -10,7 +10,7 @@ use lib.Seq.{take-at, take-all}
 use Rattle.lists.proofs.Parts.{piece-suc}
 use Rattle.rules.specs.Places.{Bytes, IsBytes}
 use Rattle.rules.specs.Calls.{Family, under}
-use Rattle.rules.specs.Digest.{Row, Legal}
+use Rattle.rules.specs.Sets.{Row, Legal}
 use Rattle.rules.specs.Keys.{piece, keyRoot, publicKey, secretKey}
 use Rattle.rules.proofs.LayerLaws.{ownRoot-sized}
 

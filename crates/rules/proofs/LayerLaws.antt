@@ -1,28 +1,22 @@
--- The laws of a layer and of the layers above each other: what the rules write leads to the own root; and what leads to
--- the own root is what the rules write, or shows a collision, or starts a chain too low.
+-- The laws of a layer and of the layers above each other: what the rules write leads to the own root.
 -- Assumes nothing.
 use mathlib.Core.Path.{_≡_, refl, sym, ap, ap₂, _∙_, subst}
-use mathlib.Core.Logic.{_≢_, _⊎_, inl, inr}
 use mathlib.Core.List.{List, [], _∷_, _++_}
 use Prim.Native.Nat.{ℕ, zero, suc, _+_, _-_, _*_, _/_, _%_, _^_, _≤_, _<_}
 use native.Mathlib.Nat.{zero-mul, suc-mul, zero-add, suc-add, add-suc, add-zero, div-eq-of-lt, mod-lt, mul-suc, mul-zero}
 use native.Mathlib.Omega.{arith}
-use lib.ListN.{length, getD, take, drop, length-append, length-drop, take-append-drop}
+use lib.ListN.{length, take, drop, length-append}
 use lib.Arith.{lt-one}
 use lib.Pow.{pow-pos, shr-lt}
-use lib.Seq.{take-at, drop-at, length-take-le}
-use Rattle.lists.proofs.Parts.{take-drop-take, piece-room, piece-suc}
+use lib.Seq.{take-at, drop-at}
 use Rattle.rules.specs.Places.{Bytes, IsBytes, treeNode}
-use Rattle.rules.specs.Calls.{Hashes, Run, Call}
-use Rattle.rules.specs.Chains.{chains, chainDigits, leaf, shown, leafFrom, ownChain}
+use Rattle.rules.specs.Calls.{Hashes, Run}
+use Rattle.rules.specs.Chains.{chains, chainDigits, leaf, shown, leafFrom}
 use Rattle.rules.specs.Trees.{path, climb}
 use Rattle.rules.specs.Layers.{chainBytes, layerBytes, layerTree, ownRoot, layerSeal, layerRoot, layersSeal, layersRoot}
-use Rattle.rules.specs.Keys.{piece}
-use Rattle.rules.specs.Findings.{Collision}
 use Rattle.rules.proofs.ChecksumLaws.{length-chainDigits}
-use Rattle.rules.proofs.FindingLaws.{Owns, before, after, then, found}
-use Rattle.rules.proofs.ChainLaws.{length-shown, leaf-sized, leafFrom-sized, leaf-accepts, shown-at, leaf-shows}
-use Rattle.rules.proofs.TreeLaws.{climb-sized, node-sized, length-path, leaf-climbs, leaf-climb-shows, owns-leaf}
+use Rattle.rules.proofs.ChainLaws.{length-shown, leaf-sized, leafFrom-sized, leaf-accepts}
+use Rattle.rules.proofs.TreeLaws.{climb-sized, node-sized, length-path, leaf-climbs}
 
 -- ---- One layer: tree t of layer l, leaf i
 
@@ -39,17 +33,17 @@ module _ (w : Hashes) (h' : ℕ) where
     ownRoot-sized l t = node-sized w (layerTree w sk l t) (λ i. leaf-sized w l t i sk) h' 0
 
     -- What is shown for M, and the path of leaf i: the two parts of a layer's seal.
-    abbrev shownFor : (l t i : ℕ) (M : Bytes) → Bytes
+    abbrev pub shownFor : (l t i : ℕ) (M : Bytes) → Bytes
     shownFor l t i M = shown w l t i sk 0 (chainDigits (w .n) M) .result
 
-    abbrev pathOf : (l t i : ℕ) → Bytes
+    abbrev pub pathOf : (l t i : ℕ) → Bytes
     pathOf l t i = path w (layerTree w sk l t) h' 0 i .result
 
-    layerSeal-is : (l t i : ℕ) (M : Bytes) → layerSeal w h' sk l t i M .result ≡ shownFor l t i M ++ pathOf l t i
+    pub layerSeal-is : (l t i : ℕ) (M : Bytes) → layerSeal w h' sk l t i M .result ≡ shownFor l t i M ++ pathOf l t i
     unfolding layerSeal
     layerSeal-is l t i M = refl
 
-    shown-long : (l t i : ℕ) (M : Bytes) → length (shownFor l t i M) ≡ chainBytes (w .n)
+    pub shown-long : (l t i : ℕ) (M : Bytes) → length (shownFor l t i M) ≡ chainBytes (w .n)
     unfolding chainBytes
     shown-long l t i M =
         length-shown w l t i sk 0 (chainDigits (w .n) M) ∙ ap (λ (x : ℕ). x * w .n) (length-chainDigits (w .n) M)
@@ -72,61 +66,6 @@ module _ (w : Hashes) (h' : ℕ) where
           leaf-accepts w l t i sk M,
         )
         (leaf-climbs w (layerTree w sk l t) (λ j. leaf-sized w l t j sk) h' i 0 (div-eq-of-lt h))
-
-    -- Chain c of a layer's part whose chain values are those shown for M.
-    shows-chain : (l t i : ℕ) (M sig : Bytes) (c : ℕ) → c < chains (w .n)
-        → take (chainBytes (w .n)) sig ≡ shownFor l t i M
-        → piece (w .n) c sig ≡ ownChain w l t i sk c (getD (chainDigits (w .n) M) c 0)
-    unfolding chainBytes
-    shows-chain l t i M sig c h e =
-        sym (take-drop-take (w .n) (c * w .n) (chains (w .n) * w .n) sig (piece-room c (chains (w .n)) (w .n) h))
-        ∙ ap (piece (w .n) c) e
-        ∙ shown-at w l t i sk 0 (chainDigits (w .n) M) c (omega (arith, h, length-chainDigits (w .n) M))
-        ∙ ap (λ (x : ℕ). ownChain w l t i sk x (getD (chainDigits (w .n) M) c 0)) (zero-add c)
-
-    pub holder-shows : (l t i : ℕ) (M : Bytes) (c : ℕ) → c < chains (w .n)
-        → piece (w .n) c (layerSeal w h' sk l t i M .result)
-        ≡ ownChain w l t i sk c (getD (chainDigits (w .n) M) c 0)
-    holder-shows l t i M c h =
-        shows-chain l t i M (layerSeal w h' sk l t i M .result) c h
-        (ap (take (chainBytes (w .n))) (layerSeal-is l t i M)
-        ∙ take-at (shownFor l t i M) (pathOf l t i) (chainBytes (w .n)) (shown-long l t i M))
-
-    -- What leads to the own root: the path from the root down, T, then the chains from 0 up.
-    pub record Shows (l t i : ℕ) (sig M : Bytes) : Type 0 where
-      pub whole : sig ≡ layerSeal w h' sk l t i M .result
-      pub chain-at : (c : ℕ) → c < chains (w .n)
-          → piece (w .n) c sig ≡ ownChain w l t i sk c (getD (chainDigits (w .n) M) c 0)
-
-    pub layer-shows : (Own : Call → Type 0) (l t i : ℕ) (sig M : Bytes) → Owns Own (ownRoot w h' sk l t) → i < 2 ^ h'
-        → length sig ≡ layerBytes (w .n) h' → layerRoot w h' l t i sig M .result ≡ ownRoot w h' sk l t .result
-        → Shows l t i sig M ⊎ Collision w Own (layerRoot w h' l t i sig M .calls)
-    unfolding layerRoot ownRoot layerBytes chainBytes
-    layer-shows Own l t i sig M o i< long e =
-        then (found (after (leafRun .calls))
-        (leaf-climb-shows w (layerTree w sk l t) (λ j. leaf-sized w l t j sk) Own h' i 0 (leafRun .result) auth
-        (div-eq-of-lt i<) o (leafFrom-sized w l t i front M .long) (simp length-drop (omega arith)) e)) (λ q.
-        found (before (climb w (treeNode l t) h' 0 i (leafRun .result) auth .calls))
-        (own-chains (q .1)
-        (leaf-shows w l t i sk Own front M (owns-leaf w (layerTree w sk l t) Own h' i 0 (div-eq-of-lt i<) o)
-        (length-take-le (chainBytes (w .n)) sig (omega arith)) (q .0))))
-      where
-        front : Bytes
-        front = take (chainBytes (w .n)) sig
-
-        auth : Bytes
-        auth = drop (chainBytes (w .n)) sig
-
-        leafRun : Run Bytes
-        leafRun = leafFrom w l t i front M
-
-        own-chains : auth ≡ pathOf l t i → (front ≡ shownFor l t i M) ⊎ Collision w Own (leafRun .calls)
-            → Shows l t i sig M ⊎ Collision w Own (leafRun .calls)
-        own-chains a (inl s) = inl (record {
-          whole = sym (take-append-drop (chainBytes (w .n)) sig) ∙ ap₂ _++_ s a ∙ sym (layerSeal-is l t i M);
-          chain-at = λ c h. shows-chain l t i M sig c h s;
-        })
-        own-chains a (inr c) = inr c
 
 -- ---- The layers, where `above` more stand above layer l
 

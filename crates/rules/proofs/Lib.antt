@@ -1,7 +1,7 @@
+-- Laws of the rules, in reading order.
 pub mod DigitLaws
 pub mod ReadLaws
 pub mod ChecksumLaws
-pub mod FindingLaws
 pub mod ChainLaws
 pub mod TreeLaws
 pub mod LayerLaws
@@ -11,10 +11,6 @@ pub mod KeyLaws
 pub mod SealLaws
 pub mod CheckLaws
 pub mod Accepts
-pub mod OneOfThree
 pub mod Starred
 pub mod SetLaws
-pub mod CountLaws
-pub mod CostLaws
 pub mod AddressLaws
-pub mod Sample

@@ -12,11 +12,11 @@ use Rattle.lists.proofs.Parts.{piece-suc, length-part, piece-room, drop-to}
 use Rattle.rules.specs.Places.{Bytes, IsBytes}
 use Rattle.rules.specs.Calls.{Family, Hashes, under, Run}
 use Rattle.rules.specs.Chains.{chains}
-use Rattle.rules.specs.Layers.{chainBytes, layerBytes, ownRoot, layerSeal, layersSeal}
+use Rattle.rules.specs.Layers.{chainBytes, layerBytes, ownRoot, layerSeal, layersSeal, treeAt, leafAt}
 use Rattle.rules.specs.Forest.{treeBytes, forestBytes, ownForest, forestSeal}
-use Rattle.rules.specs.Digest.{Row, Legal, Pointed, pointed}
-use Rattle.rules.specs.Seal.{digestOf, written, sealWith, partStart, partLength, part}
-use Rattle.rules.specs.Findings.{treeAt, leafAt, heldValue}
+use Rattle.rules.specs.Sets.{Row, Legal}
+use Rattle.rules.specs.Digest.{Pointed, pointed}
+use Rattle.rules.specs.Seal.{digestOf, written, sealWith, partStart, partLength, part, heldValue}
 use Rattle.rules.proofs.LayerLaws.{layerSeal-long, layersSeal-suc, layersSeal-long}
 use Rattle.rules.proofs.ForestLaws.{forestSeal-long, forest-accepts}
 use Rattle.rules.proofs.DigestLaws.{Placed, placed, leafAt-lt}

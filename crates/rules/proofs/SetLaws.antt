@@ -8,8 +8,7 @@ use Prim.Native.Nat.{ℕ, _+_, _-_, _*_, _/_, _^_}
 use native.Mathlib.Omega.{arith}
 use lib.Dec.{T, ltb, eqb, ltb→lt, eqb→eq}
 use Rattle.rules.specs.Chains.{chains}
-use Rattle.rules.specs.Digest.{Row, Legal, bytesFor}
-use Rattle.rules.specs.Sets.{rows, good, every, find, rowOf, bounds}
+use Rattle.rules.specs.Sets.{Row, Legal, bytesFor, rows, good, every, find, rowOf}
 
 -- The halves of a test that has two.
 pub first : (a b : Bool) → T (a && b) → T a
@@ -82,8 +81,3 @@ pub rowOf-legal : (number : ℕ) (r : Row) → rowOf number ≡ some r → (r .n
 rowOf-legal number r e =
     let f = rowOf-passes good every-row number r e in
     (f .0, legal r (f .1))
-
--- The bounds of F calls, worked out for every row.
-pub row-bounds : bounds rows ≡ 329 ∷ 3584 ∷ 1023 ∷ 11253 ∷ []
-unfolding bounds rows
-row-bounds = refl

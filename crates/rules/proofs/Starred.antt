@@ -6,7 +6,7 @@ use Rattle.rules.specs.Digits.{value, digits, base2b}
 use Rattle.rules.specs.Places.{words, address}
 use Rattle.rules.specs.Chains.{steps, ownDigits, checksum, chainDigits}
 use Rattle.rules.specs.Digest.{lastBits}
-use Rattle.rules.specs.Findings.{treeAt, leafAt}
+use Rattle.rules.specs.Layers.{treeAt, leafAt}
 use Rattle.rules.specs.Starred.{table, Holds}
 
 pub starred : Holds table

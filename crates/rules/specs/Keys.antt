@@ -6,7 +6,7 @@ use lib.ListN.{take, drop}
 use Rattle.rules.specs.Places.{Bytes}
 use Rattle.rules.specs.Calls.{Family, under, Run}
 use Rattle.rules.specs.Layers.{ownRoot}
-use Rattle.rules.specs.Digest.{Row}
+use Rattle.rules.specs.Sets.{Row}
 
 -- The i-th n bytes of a string.
 abbrev pub piece : (n i : ℕ) (x : Bytes) → Bytes

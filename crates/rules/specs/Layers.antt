@@ -15,6 +15,19 @@ chainBytes n = chains n * n
 unfoldable pub layerBytes : (n h' : ℕ) → ℕ
 layerBytes n h' = chainBytes n + h' * n
 
+-- ---- Which tree and which leaf a layer has, counted from layer 0, whose tree and leaf a digest points to
+
+-- One layer up, leaf = tree mod 2^h' and tree = tree div 2^h'.
+unfoldable pub treeAt : (h' tree layer : ℕ) → ℕ
+treeAt h' tree zero = tree
+treeAt h' tree (suc j) = treeAt h' tree j / 2 ^ h'
+
+unfoldable pub leafAt : (h' tree leaf layer : ℕ) → ℕ
+leafAt h' tree leaf zero = leaf
+leafAt h' tree leaf (suc j) = treeAt h' tree j % 2 ^ h'
+
+-- ---- The tree of a layer
+
 module _ (w : Hashes) where
   -- A tree of a layer: its leaves are those of the chains.
   abbrev pub layerTree : (skSeed : Bytes) (layer tree : ℕ) → Tree

@@ -6,11 +6,9 @@ pub mod Chains
 pub mod Trees
 pub mod Layers
 pub mod Forest
+pub mod Sets
 pub mod Digest
 pub mod Keys
 pub mod Seal
 pub mod Check
-pub mod Findings
-pub mod Counts
-pub mod Sets
 pub mod Starred

@@ -5,9 +5,10 @@ use Prim.Native.Nat.{ℕ, zero, suc, _+_, _-_, _*_}
 use lib.ListN.{take, drop}
 use Rattle.rules.specs.Places.{Bytes}
 use Rattle.rules.specs.Calls.{randomizer, digest, Family, Hashes, under, Run, return, _>>=_}
-use Rattle.rules.specs.Layers.{layerBytes, layersSeal}
-use Rattle.rules.specs.Forest.{forestBytes, forestSeal, forestRoot}
-use Rattle.rules.specs.Digest.{Row, Pointed, pointed}
+use Rattle.rules.specs.Layers.{layerBytes, treeAt, ownRoot, layersSeal}
+use Rattle.rules.specs.Forest.{forestBytes, ownForest, forestSeal, forestRoot}
+use Rattle.rules.specs.Sets.{Row}
+use Rattle.rules.specs.Digest.{Pointed, pointed}
 use Rattle.rules.specs.Keys.{piece}
 
 -- Algorithm 22, slh_sign, line 8, with an empty context: the framed message.
@@ -72,3 +73,11 @@ partLength r (suc (suc j)) = layerBytes (r .n) (r .h')
 
 unfoldable pub part : Row → (number : ℕ) (seal : Bytes) → Bytes
 part r number seal = take (partLength r number) (drop (partStart r number) seal)
+
+-- ---- What the holder seals, at the place that the digest points to
+
+module _ (r : Row) (f : Family (r .n) (r .m)) (pkSeed : Bytes) (at : Pointed) where
+  -- The value that the holder seals in a layer: the own forest, then the root of the own tree below.
+  unfoldable pub heldValue : (skSeed : Bytes) (layer : ℕ) → Bytes
+  heldValue skSeed zero = ownForest (under f pkSeed) (at .tree) (at .leaf) (r .a) skSeed (r .k) .result
+  heldValue skSeed (suc j) = ownRoot (under f pkSeed) (r .h') skSeed j (treeAt (r .h') (at .tree) j) .result

@@ -1,13 +1,27 @@
--- The sets: the one table where their numbers stand (FIPS 205, table 2), and its test.
+-- The sets: rows of parameters, what is legal of a row, the one table where the sets' numbers stand (FIPS 205, table
+-- 2), and its test.
 -- Assumes nothing.
+use mathlib.Core.Path.{_≡_}
 use mathlib.Core.Bool.{Bool, true, false, _&&_, cond}
 use mathlib.Core.List.{List, [], _∷_, _++_}
 use mathlib.Core.Option.{Option, some, none}
-use Prim.Native.Nat.{ℕ, _+_, _-_, _*_, _/_, _^_}
+use Prim.Native.Nat.{ℕ, _+_, _-_, _*_, _/_, _^_, _<_}
 use lib.Dec.{ltb, eqb}
 use Rattle.rules.specs.Chains.{chains}
-use Rattle.rules.specs.Digest.{Row, bytesFor}
-use Rattle.rules.specs.Counts.{cost}
+
+-- A row of the table of sets: its number, table 2's parameters, and the bytes of a public key, a secret key and a seal.
+pub record Row : Type 0 where
+  pub number : ℕ
+  pub n : ℕ
+  pub h : ℕ
+  pub d : ℕ
+  pub h' : ℕ
+  pub a : ℕ
+  pub k : ℕ
+  pub m : ℕ
+  pub publicBytes : ℕ
+  pub secretBytes : ℕ
+  pub sealBytes : ℕ
 
 abbrev pub row : (number n h d h' a k m publicBytes secretBytes sealBytes : ℕ) → Row
 row number n h d h' a k m publicBytes secretBytes sealBytes = record {
@@ -30,6 +44,20 @@ rows =
     row 1 16 63 7 9 12 14 30 32 64 7856
     ∷ row 2 16 66 22 3 6 33 34 32 64 17088
     ∷ []
+
+-- The bytes that hold a number of bits: bits / 8, rounded up.
+abbrev pub bytesFor : (bits : ℕ) → ℕ
+bytesFor bits = (bits + 7) / 8
+
+-- What every theorem needs of a row. The last line says that three digits hold any checksum: 30·n is the greatest.
+pub record Legal (r : Row) : Type 0 where
+  pub layers : r .h ≡ r .d * r .h'
+  pub some-layer : 0 < r .d
+  pub digest-long : r .m ≡ bytesFor (r .k * r .a) + (bytesFor (r .h - r .h') + bytesFor (r .h'))
+  pub public-long : r .publicBytes ≡ 2 * r .n
+  pub secret-long : r .secretBytes ≡ 4 * r .n
+  pub seal-long : r .sealBytes ≡ (1 + r .k * (r .a + 1) + r .h + chains (r .n) * r .d) * r .n
+  pub checksum-fits : 30 * r .n < 16 ^ 3
 
 -- The test of a row: each line of `Legal`.
 unfoldable pub good : Row → Bool
@@ -54,8 +82,3 @@ find number (r ∷ rs) = cond (eqb number (r .number)) (some r) (find number rs)
 
 unfoldable pub rowOf : (number : ℕ) → Option Row
 rowOf number = find number rows
-
--- The least and the greatest number of F calls of a check, for each row.
-unfoldable pub bounds : List Row → List ℕ
-bounds [] = []
-bounds (r ∷ rs) = (r .k + 45 * r .d) ∷ (r .k + cost (30 * r .n) * r .d) ∷ bounds rs

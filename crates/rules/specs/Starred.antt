@@ -8,7 +8,7 @@ use Rattle.rules.specs.Digits.{base2b}
 use Rattle.rules.specs.Places.{address, chainStep}
 use Rattle.rules.specs.Chains.{steps, checksum, chainDigits}
 use Rattle.rules.specs.Digest.{lastBits}
-use Rattle.rules.specs.Findings.{treeAt, leafAt}
+use Rattle.rules.specs.Layers.{treeAt, leafAt}
 
 pub record Case : Type 0 where
   pub got : List ℕ

@@ -1,56 +1,25 @@
--- Keys and seals on plain values: what was written piece by piece is the rules' key, and the rules' seal.
+-- Seals on plain values: what was written piece by piece is the rules' seal.
 -- Assumes nothing.
 use mathlib.Core.Path.{_≡_, refl, sym, ap, ap₂, _∙_}
-use mathlib.Core.List.{[], _∷_, _++_, append-assoc}
+use mathlib.Core.List.{[], _∷_, _++_}
 use Prim.Native.Nat.{ℕ, _+_, _-_, _*_, _≤_}
 use native.Mathlib.Nat.{sub-zero}
 use native.Mathlib.Omega.{arith}
 use borrow.Rule.Slice.PartMut.{putMid}
 use lib.ListN.{length, take, drop, length-drop}
-use lib.Seq.{take-all}
-use Rattle.lists.proofs.Filling.{rest-read, front-written}
+use Rattle.lists.proofs.Filling.{rest-read, front-written, both-written}
+use Rattle.lists.proofs.Lent.{front-long}
 use Rattle.lists.proofs.Parts.{nil-of-length}
-use Rattle.parts.specs.Put.{Put}
 use Rattle.rules.specs.Places.{Bytes}
 use Rattle.rules.specs.Calls.{Family, under}
-use Rattle.rules.specs.Trees.{node}
-use Rattle.rules.specs.Layers.{layerTree, ownRoot, layersSeal}
+use Rattle.rules.specs.Layers.{layersSeal}
 use Rattle.rules.specs.Forest.{forestSeal, forestRoot}
-use Rattle.rules.specs.Digest.{Row, Pointed, pointed}
-use Rattle.rules.specs.Keys.{piece, keyRoot, publicKey, secretKey}
+use Rattle.rules.specs.Sets.{Row}
+use Rattle.rules.specs.Digest.{Pointed, pointed}
+use Rattle.rules.specs.Keys.{piece}
 use Rattle.rules.specs.Seal.{frame, mixedIn, randomizerOf, digestOf, written, sealWith, sealOf}
-use Rattle.points.specs.Ready.{Ready}
-use Rattle.points.proofs.SizeLaws.{forestSize, layerSize, seal-size, first-piece, third-piece, last-piece}
-use Rattle.writes.proofs.WriteLaws.{front-long, both-written}
-
--- ---- Keys
-
--- Two pieces put one after the other that fill a string are the string.
-pub pair-written : {out mid last a b : Bytes} {i j : ℕ} → Put out 0 a mid i → Put mid i b last j
-    → length last ≡ length a + length b → last ≡ a ++ b
-pair-written {last = last} {b = b} {j = j} p q long =
-    let full : length last ≤ j = omega (arith, p .ends, q .ends, long) in
-    sym (take-all j last full) ∙ q .front ∙ ap (λ (x : Bytes). x ++ b) (p .front)
-
-module _ (r : Row) (f : Family (r .n) (r .m)) (sk pk : Bytes) where
-  -- The topmost tree's node at its full height is the key's root.
-  pub root-made : {v : Bytes} → v ≡ node (under f pk) (layerTree (under f pk) sk (r .d - 1) 0) (r .h') 0 .result
-      → v ≡ keyRoot r f sk pk .result
-  unfolding keyRoot ownRoot
-  root-made e = e
-
-  module _ {v : Bytes} (e : v ≡ keyRoot r f sk pk .result) where
-    pub public-made : {out : Bytes} → out ≡ pk ++ v → out ≡ publicKey r f sk pk
-    unfolding publicKey
-    public-made g = g ∙ ap (λ (x : Bytes). pk ++ x) e
-
-    -- The secret key, from its two seeds over the first m bytes and the public key over the rest.
-    pub secret-made : (m : ℕ) (prf out : Bytes) {xs ys : Bytes} → length xs ≡ m → xs ≡ sk ++ prf → ys ≡ pk ++ v
-        → putMid m (length (putMid 0 (m - 0) out xs) - m) (putMid 0 (m - 0) out xs) ys ≡ secretKey r f sk prf pk
-    unfolding secretKey
-    secret-made m prf out {xs} {ys} long g h =
-        both-written m out xs ys long ∙ ap₂ _++_ g (h ∙ ap (λ (x : Bytes). pk ++ x) e)
-        ∙ append-assoc sk prf (pk ++ keyRoot r f sk pk .result)
+use Rattle.rows.specs.Ready.{Ready}
+use Rattle.rows.proofs.SizeLaws.{forestSize, layerSize, seal-size, first-piece, third-piece, last-piece}
 
 -- ---- The randomizer
 

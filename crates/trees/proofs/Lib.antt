@@ -1,4 +1,2 @@
-pub mod GroveLaws
-pub mod ClimbLaws
 pub mod NodeLaws
 pub mod PathLaws

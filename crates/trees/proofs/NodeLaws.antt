@@ -10,9 +10,9 @@ use Rattle.rules.specs.Places.{Bytes, forestSecret, forestNode, address}
 use Rattle.rules.specs.Calls.{F, H, PRF, Hashes}
 use Rattle.rules.specs.Trees.{Tree, node}
 use Rattle.rules.specs.Forest.{forestLeaf}
-use Rattle.trees.specs.declared.groves.Grove.{Grove}
-use Rattle.trees.specs.declared.groves.Grove.the-variants.{Layer, Forest}
-use Rattle.trees.specs.Groves.{placeOf, treeOf}
+use Rattle.climbs.specs.declared.groves.Grove.{Grove}
+use Rattle.climbs.specs.declared.groves.Grove.the-variants.{Layer, Forest}
+use Rattle.climbs.specs.Groves.{placeOf, treeOf}
 
 -- ---- Leaves
 

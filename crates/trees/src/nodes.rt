@@ -5,16 +5,16 @@ ghost use lib.ListN.{length, take};
 ghost use Rattle.rules.specs.Forest.{forestLeaf};
 ghost use Rattle.rules.specs.Trees.{node};
 ghost use Rattle.calls.specs.Hashes.{hashesOf};
-ghost use Rattle.trees.specs.Groves.{treeOf};
-use crate::groves::Grove;
-use crate::groves::node_address;
-use calls::addresses::address_at;
-use calls::hashes::Kit;
-use calls::hashes::f_in;
-use calls::hashes::h;
-use calls::hashes::secret_in;
+ghost use Rattle.climbs.specs.Groves.{treeOf};
+use climbs::groves::Grove;
+use climbs::groves::node_address;
+use addresses::address_at;
+use calls::Kit;
+use calls::f_in;
+use calls::h;
+use calls::secret_in;
 use chains::Spot;
-use chains::leaf;
+use leaves::leaf;
 
 // Leaf i of a forest: F of its secret value, in the room lent.
 fn forest_leaf_in(kit: Kit, seed: &[u8], sk: &[u8], tree: u64, pair: u32, i: u32, io: &mut [u8])

@@ -4,10 +4,10 @@ ghost use Prim.Native.Nat.{_+_, _*_, _^_, _≤_};
 ghost use lib.ListN.{length};
 ghost use Rattle.rules.specs.Trees.{sibling, path};
 ghost use Rattle.calls.specs.Hashes.{hashesOf};
-ghost use Rattle.trees.specs.Groves.{treeOf};
-use crate::groves::Grove;
+ghost use Rattle.climbs.specs.Groves.{treeOf};
+use climbs::groves::Grove;
 use crate::nodes::node;
-use calls::hashes::Kit;
+use calls::Kit;
 use parts::put;
 
 // The index of the other child of the same node.

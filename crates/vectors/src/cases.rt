@@ -4,11 +4,6 @@ ghost use lib.ListN.{length};
 use crate::bytes;
 use crate::fields;
 use crate::printing;
-use desk::checking;
-use desk::digit_reading;
-use desk::making;
-use desk::part_reading;
-use desk::sealing;
 
 fn every(a: bool, b: bool, c: bool, d: bool) -> bool {
     a && b && c && d

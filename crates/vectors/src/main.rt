@@ -15,7 +15,7 @@ mod cases;
 mod fields;
 mod printing;
 
-use desk::answers::same;
+use answers::same;
 use libc::STDIN_FILENO;
 
 // One line, without its end.

@@ -1,7 +1,6 @@
 // What is written to standard output.
-use desk::answers::Answer;
-use desk::answers::number_of;
-use hash::shake256;
+use answers::Answer;
+use answers::number_of;
 use libc::STDOUT_FILENO;
 
 pub fn text(line: &[u8]) {
@@ -57,6 +56,6 @@ pub fn list(numbers: &[u32]) {
 // A space, and 32 bytes of SHAKE256 in hex.
 pub fn digest(bytes: &[u8]) {
     let mut out = [0u8; 32];
-    shake256::digest(bytes, &mut out);
+    shake::digest(bytes, &mut out);
     hex(&out);
 }

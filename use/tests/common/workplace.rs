@@ -1,10 +1,24 @@
 //! A folder of a test's own, in which it runs the tool.
 
 use std::collections::BTreeMap;
+use std::env;
 use std::fs;
 use std::io::Write;
-use std::path::PathBuf;
+use std::path::{Path, PathBuf};
 use std::process::{Command, Stdio};
+
+/// A program that links the library: run as it is or, where this machine has another processor than the library was
+/// compiled for, by the emulator that SKIMDRAL_EMULATOR names.
+pub fn program(path: &Path) -> Command {
+    match env::var_os("SKIMDRAL_EMULATOR") {
+        Some(emulator) => {
+            let mut command = Command::new(emulator);
+            command.arg(path);
+            command
+        }
+        None => Command::new(path),
+    }
+}
 
 /// The folder, which goes when this does.
 pub struct Workplace(PathBuf);
@@ -81,7 +95,7 @@ impl Workplace {
     }
 
     pub fn command(&self, line: &str) -> Command {
-        let mut command = Command::new(env!("CARGO_BIN_EXE_skimdral"));
+        let mut command = program(Path::new(env!("CARGO_BIN_EXE_skimdral")));
         command.args(line.split_whitespace()).current_dir(&self.0).env("TMPDIR", &self.0);
         command
     }

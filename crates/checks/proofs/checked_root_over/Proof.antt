@@ -2,8 +2,8 @@
 -- Assumes nothing.
 use mathlib.Core.Path.{_∙_}
 use borrow.Author.Needs.{needs}
-use Rattle.calls.specs.Rows.{ruledRow}
-use Rattle.points.specs.Ready.{familyFor}
+use Rattle.rows.specs.Rows.{ruledRow}
+use Rattle.calls.specs.Hashes.{familyFor}
 use Rattle.points.proofs.PointLaws.{in-key}
 use Rattle.checks.proofs.CheckLaws.{checked-made, checked-calls}
 use Rattle.checks.proofs.checked_root_over.Statement.{statement}

@@ -2,10 +2,10 @@
 -- Assumes nothing.
 use native.Mathlib.Omega.{arith}
 use borrow.Author.Needs.{needs}
-use Rattle.calls.specs.Rows.{ruledRow}
-use Rattle.points.specs.Ready.{familyFor}
-use Rattle.points.proofs.SizeLaws.{tree-room}
-use Rattle.points.proofs.ShapeLaws.{wood, stack}
+use Rattle.rows.specs.Rows.{ruledRow}
+use Rattle.calls.specs.Hashes.{familyFor}
+use Rattle.rows.proofs.SizeLaws.{tree-room}
+use Rattle.rows.proofs.ShapeLaws.{wood, stack}
 use Rattle.points.specs.At.{at}
 use Rattle.checks.proofs.CheckLaws.{forest-long, rest-long, root-made, root-calls, few-calls}
 use Rattle.checks.proofs.root_at.Statement.{statement}
@@ -41,7 +41,7 @@ add-t30 c =
     let a = s .args in
     let r = ruledRow (a .row) in
     record {
-      fits = few-calls r (familyFor r) (a .seed .now) (at (a .place) (a .indices .now)) (a .seal .now) (s .pre .0 .0)
+      fits = few-calls r (familyFor r) (a .seed .now) (at (a .pointed) (a .indices .now)) (a .seal .now) (s .pre .0 .0)
           (s .pre .0 .1) (s .pre .1 .0) _ (low .forest-root .ensures .1 .0) (c .before .layers-root .ensures .1 .0);
     }
 
@@ -51,7 +51,7 @@ returns c =
     let s = low .before .before .before .before .before .before .before in
     let a = s .args in
     let r = ruledRow (a .row) in
-    let p = at (a .place) (a .indices .now) in
+    let p = at (a .pointed) (a .indices .now) in
     let e = low .forest-root .ensures in
     let g = c .before .layers-root .ensures in (
       root-made r (familyFor r) (a .seed .now) p (a .seal .now) (e .0) (g .0),

@@ -17,7 +17,7 @@ returns : tie.Need-returns
 returns c =
     let s = c .before .before .before in
     let b : Below 256 (s .args .x .now) = λ i. c .before .before .shared-slice-known .given i .fits in
-    digit-read (s .args .x .now) _ (s .args .width) (c .number .result) b (omega arith) (s .pre .2) (c .number .ensures)
+    digit-read (s .args .x .now) _ (s .args .width) (c .to-int .result) b (omega arith) (s .pre .2) (c .to-int .ensures)
 
 pub digit-spec : {M : Type 1} → statement M
 digit-spec =

@@ -6,9 +6,9 @@ use native.Mathlib.Omega.{arith}
 use lib.ListN.{length, take, drop}
 use lib.Seq.{take-add, take-all}
 use borrow.Author.Needs.{needs}
-use Rattle.hash.specs.Shake.{rate256}
-use Rattle.hash.specs.Stream.{Sponge, sponge, empty, feed}
-use Rattle.hash.proofs.Laws.{shaken, feed-nil, feed-append}
+use Rattle.shake.specs.Shake.{rate256}
+use Rattle.shake.specs.Stream.{Sponge, sponge, empty, feed}
+use Rattle.shake.proofs.Laws.{shaken, feed-nil, feed-append}
 use Rattle.hash_run.proofs.pieces.Statement.{statement}
 use Rattle.hash_run.proofs.pieces.Tie as tie
 

@@ -1,8 +1,8 @@
 -- `aim_over` reads where the digest of the framed message points.
 -- Assumes nothing.
 use borrow.Author.Needs.{needs}
-use Rattle.calls.specs.Rows.{ruledRow}
-use Rattle.points.specs.Ready.{familyFor}
+use Rattle.rows.specs.Rows.{ruledRow}
+use Rattle.calls.specs.Hashes.{familyFor}
 use Rattle.points.proofs.PointLaws.{aimed}
 use Rattle.points.proofs.aim_over.Statement.{statement}
 use Rattle.points.proofs.aim_over.Tie as tie

@@ -14,13 +14,13 @@ rem-result c = digit-modulus (c .before .before .before .args .bits) (omega arit
 returns : tie.Need-returns
 returns c =
     let s = c .before .before .before in
-    bits-cut (s .args .bits) _ (s .args .x .now) (c .if1 .taken) (c .before .number .ensures)
+    bits-cut (s .args .bits) _ (s .args .x .now) (c .if1 .taken) (c .before .to-int .ensures)
 
 returns-2 : tie.Need-returns-2
 returns-2 c =
     let s = c .before .before .before in
     let b : Below 256 (s .args .x .now) = λ i. c .before .before .shared-slice-known .given i .fits in
-    bits-kept (s .args .bits) _ (s .args .x .now) (c .if1 .left) b (s .pre) (c .before .number .ensures)
+    bits-kept (s .args .bits) _ (s .args .x .now) (c .if1 .left) b (s .pre) (c .before .to-int .ensures)
 
 pub last-bits-spec : {M : Type 1} → statement M
 last-bits-spec =

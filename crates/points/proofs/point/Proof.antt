@@ -3,7 +3,7 @@
 use native.Mathlib.Omega.{arith}
 use native.Mathlib.Nat.{sub-zero}
 use borrow.Author.Needs.{needs}
-use Rattle.calls.specs.Rows.{ruledRow}
+use Rattle.rows.specs.Rows.{ruledRow}
 use Rattle.points.proofs.PointLaws.{bits-fit, height-le, forest-bits, indices-read, tree-read, leaf-read, pointed-at}
 use Rattle.points.proofs.point.Statement.{statement}
 use Rattle.points.proofs.point.Tie as tie

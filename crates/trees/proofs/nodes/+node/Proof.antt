@@ -8,13 +8,13 @@ use borrow.Fn.Kinds.{In}
 use borrow.Fn.PlainCycle.{Measures, is, falls, and}
 use lib.Seq.{length-take-le}
 use Rattle.calls.specs.Hashes.{hashesOf}
-use Rattle.trees.specs.Groves.{treeOf}
+use Rattle.climbs.specs.Groves.{treeOf}
 use Rattle.trees.proofs.NodeLaws.{node-leaf, node-made, room}
 use Rattle.trees.proofs.nodes.node.Reads as node
 use Rattle.trees.proofs.nodes.node.Kinds as node-kinds
 use Rattle.trees.proofs.nodes.+node.Lts-node as node-lts
-use Rattle.calls.proofs.hashes.h.Reads as h-reads
-use Rattle.trees.proofs.groves.node_address.Reads as node-address-reads
+use Rattle.calls.proofs.h.Reads as h-reads
+use Rattle.climbs.proofs.groves.node_address.Reads as node-address-reads
 use Rattle.trees.proofs.nodes.leaf_of.Reads as leaf-of-reads
 use Rattle.trees.proofs.nodes.+node.{statement}
 use Rattle.trees.proofs.nodes.+node.Tie.{close}

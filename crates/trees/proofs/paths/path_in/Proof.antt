@@ -12,7 +12,7 @@ use lib.Seq.{length-take-le, take-all}
 use Rattle.lists.proofs.Parts.{piece-room}
 use Rattle.rules.specs.Trees.{path}
 use Rattle.calls.specs.Hashes.{hashesOf}
-use Rattle.trees.specs.Groves.{treeOf}
+use Rattle.climbs.specs.Groves.{treeOf}
 use Rattle.trees.proofs.PathLaws.{path-turn, path-end, room-start, room-turn}
 use Rattle.trees.proofs.paths.path_in.Statement.{statement}
 use Rattle.trees.proofs.paths.path_in.Tie as tie

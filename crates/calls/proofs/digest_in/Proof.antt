@@ -1,0 +1,28 @@
+-- `digest_in` is the digest: the randomizer, the public seed, the root and the framed message are fed.
+-- Assumes nothing.
+use mathlib.Core.Path.{_≡_, ap, _∙_}
+use mathlib.Core.List.{_++_}
+use borrow.Author.Needs.{needs}
+use Rattle.shake.specs.Shake.{shake256}
+use Rattle.calls.specs.Hashes.{family}
+use Rattle.calls.proofs.HashLaws.{four-joined}
+use Rattle.calls.proofs.digest_in.Statement.{statement}
+use Rattle.calls.proofs.digest_in.Tie as tie
+
+returns : tie.Need-returns
+unfolding family
+returns c =
+    let late = c .before .before .before .before .before .before .before in
+    let s = late .before .before .before .before .before .before .before .before .before .before in
+    let a = s .args in
+    let x = a .before .now ++ a .message .now in
+    four-joined (a .r .now) (a .seed .now) (a .root .now) x _
+    (late .before .before .absorb-two .ensures) (late .absorb .ensures)
+    (c .before .before .before .before .before .absorb-two2 .ensures) (c .before .before .end .ensures)
+    ∙ ap (λ n. shake256 (a .r .now ++ (a .seed .now ++ (a .root .now ++ x))) n) (s .pre)
+
+pub digest-in-spec : {M : Type 1} → statement M
+digest-in-spec =
+    tie.close
+    (tie.spec (λ c κs. search needs) (λ c κs. search needs) (λ c κs. search needs) (λ c κs. search needs)
+    (λ c. search needs) returns)

@@ -1,0 +1,2 @@
+pub mod GroveLaws
+pub mod ClimbLaws

@@ -1,0 +1,3 @@
+-- Laws of counts and costs.
+pub mod CountLaws
+pub mod CostLaws

@@ -1,0 +1,157 @@
+-- `roots_in` writes the trees' roots one after the other: what is written and what is left to walk are the whole.
+-- Assumes nothing.
+use mathlib.Core.Path.{_≡_, refl, sym, ap, _∙_}
+use mathlib.Core.List.{_++_}
+use Prim.Native.Nat.{_+_, _-_, _*_, _^_, _≤_, _<_}
+use native.Mathlib.Nat.{sub-zero}
+use native.Mathlib.Omega.{arith}
+use lib.ListN.{length, take, drop, getD, length-take}
+use lib.Seq.{take-all, length-take-le}
+use borrow.Author.Needs.{needs}
+use Rattle.lists.proofs.Parts.{piece-room}
+use Rattle.lists.proofs.Lent.{lent}
+use Rattle.lists.proofs.Filling.{lent-length}
+use Rattle.rules.specs.Forest.{forestWalk}
+use Rattle.calls.specs.Hashes.{hashesOf}
+use Rattle.forest_walks.proofs.ForestLaws.{rootOf, roots-turn, roots-end}
+use Rattle.rows.proofs.SizeLaws.{small-product}
+use Rattle.forest_walks.proofs.roots_in.Statement.{statement}
+use Rattle.forest_walks.proofs.roots_in.Tie as tie
+
+abbrev Inv-loop : tie.InvT-loop
+Inv-loop kit seed tree pair a size ds sig out₀ n step j₀ base₀ at₀ o₀ out j base at o =
+    (j ≤ length ds) × (base ≡ j * size) × (at ≡ j * step) × (o ≡ j * n) × (length out ≡ length out₀)
+    × (take o out ++ forestWalk (hashesOf kit seed) tree pair a j (drop j ds) (drop at sig) .result
+    ≡ forestWalk (hashesOf kit seed) tree pair a 0 ds sig .result)
+
+abbrev μ-loop : tie.MeasureT-loop
+μ-loop kit seed tree pair a size ds sig out₀ n step j₀ base₀ at₀ o₀ out j base at o = length ds - j
+
+-- In a turn there is a part left, room for its root, and room for its leaves' numbers.
+record Room (c : tie.In-loop Inv-loop μ-loop) : Type 0 where
+  part-left : let a = c .before .before .before .before .before .before .args in
+      c .before .loop .at + (a .kit .n + a .a * a .kit .n) ≤ length (a .sig .now)
+  root-room : let a = c .before .before .before .before .before .before .args in
+      c .before .loop .o + a .kit .n ≤ length (c .before .loop .out)
+  leaf-room : let a = c .before .before .before .before .before .before .args in
+      c .before .loop .base + a .size ≤ length (a .ds .now) * a .size
+
+room : (c : tie.In-loop Inv-loop μ-loop) → Room c
+room c =
+    let s = c .before .before .before .before .before .before in
+    let a = s .args in
+    let l = c .before .loop in
+    let many = length (a .ds .now) in
+    record {
+      part-left = omega (
+        arith,
+        piece-room (l .j) many (a .kit .n + a .a * a .kit .n) (c .loop-test .taken),
+        s .pre .1 .0,
+        l .inv .2,
+      );
+      root-room = omega (
+        arith,
+        piece-room (l .j) many (a .kit .n) (c .loop-test .taken),
+        s .pre .1 .1,
+        l .inv .3,
+        l .inv .4,
+      );
+      leaf-room = omega (arith, piece-room (l .j) many (a .size) (c .loop-test .taken), l .inv .1);
+    }
+
+-- The digit of a turn is below the number of a tree's leaves.
+digit : (c : tie.In-loop Inv-loop μ-loop) → let a = c .before .before .before .before .before .before .args in
+    getD (a .ds .now) (c .before .loop .j) 0 < a .size
+digit c = c .before .before .before .before .before .before .pre .0 .3 (c .before .loop .j)
+
+mul-step : tie.Need-mul-step Inv-loop μ-loop
+mul-step c =
+    let s = c .before .before .before .before in
+    omega (arith, small-product (s .args .a) (s .args .kit .n) (s .fits .a .fits) (s .pre .0 .0))
+
+add-step : tie.Need-add-step Inv-loop μ-loop
+add-step c =
+    let s = c .before .before .before .before in
+    omega (arith, small-product (s .args .a) (s .args .kit .n) (s .fits .a .fits) (s .pre .0 .0))
+
+loop-holds : tie.Need-loop-holds Inv-loop μ-loop
+loop-holds c = (omega arith, omega arith, omega arith, omega arith, refl, refl)
+
+add-leaf : tie.Need-add-tree-root Inv-loop μ-loop
+add-leaf c =
+    omega (
+      arith,
+      room (c .before) .leaf-room,
+      digit (c .before),
+      c .before .before .before .before .before .before .before .pre .0 .2,
+    )
+
+tree-root-requires : tie.Need-tree-root-requires Inv-loop μ-loop
+tree-root-requires c κs =
+    let turn = c .before .before in
+    let s = turn .before .before .before .before .before .before in
+    let a = s .args in
+    let step = a .kit .n + a .a * a .kit .n in
+    (s .pre .0 .0, lent-length (turn .before .loop .at) step (a .sig .now) (room turn .part-left))
+
+put-requires : tie.Need-put-requires Inv-loop μ-loop
+put-requires c κs =
+    let turn = c .before .before .before .before .before .before in
+    let a = turn .before .before .before .before .before .before .args in
+    omega (arith, room turn .root-room, length-take (a .kit .n - 0) (c .before .before .before .tree-root .result))
+
+add-base : tie.Need-add-base Inv-loop μ-loop
+add-base c =
+    let turn = c .before .before .before .before .before .before .before .before .before in
+    omega (arith, room turn .leaf-room, turn .before .before .before .before .before .before .pre .0 .2)
+
+loop-again : tie.Need-loop-again Inv-loop μ-loop
+loop-again c =
+    let rooted = c .before .before .before .before .before .before in
+    let turn = rooted .before .before .before in
+    let l = turn .before .loop in
+    let s = turn .before .before .before .before .before .before in
+    let a = s .args in
+    let n = a .kit .n in
+    let step = n + a .a * n in
+    let put = c .before .before .put in
+    let v = rooted .tree-root .result in
+    let w = hashesOf (a .kit) (a .seed .now) in
+    let i = l .base + getD (a .ds .now) (l .j) 0 in
+    let front : take (n - 0) v ≡ take n v = ap (λ k. take k v) (sub-zero n) in
+    let long : length (take (n - 0) v) ≡ n = ap length front ∙ length-take-le n v (omega (arith, s .pre .0 .0)) in
+    let leaf : i ≡ l .j * 2 ^ a .a + getD (a .ds .now) (l .j) 0 =
+    ap (λ x. x + getD (a .ds .now) (l .j) 0) (l .inv .1 ∙ ap (λ x. l .j * x) (s .pre .0 .1)) in
+    let root =
+    front ∙ rooted .tree-root .ensures
+    ∙ ap (rootOf w (a .tree) (a .pair) (a .a) i) (lent (l .at) step (a .sig .now)) in (
+      omega arith,
+      omega (arith, l .inv .1),
+      omega (arith, l .inv .2),
+      omega (arith, put .ensures .ends, long, l .inv .3),
+      put .kept .0 ∙ l .inv .4,
+      ap (λ x. x ++ forestWalk w (a .tree) (a .pair) (a .a) (l .j + 1) (drop (l .j + 1) (a .ds .now))
+          (drop (l .at + step) (a .sig .now)) .result) (put .ensures .front)
+          ∙ roots-turn w (a .tree) (a .pair) (a .a) (a .ds .now) (l .j) i (l .at) (a .sig .now) (take (l .o) (l .out))
+          (take (n - 0) v) (turn .loop-test .taken) leaf root (l .inv .5),
+    )
+
+returns : tie.Need-returns Inv-loop μ-loop
+returns c =
+    let l = c .before .loop in
+    let s = c .before .before .before .before .before .before in
+    let a = s .args in
+    let done : l .j ≡ length (a .ds .now) = omega arith in
+    let ends = ap (λ x. x * a .kit .n) done in
+    let full : length (l .out) ≤ l .o = omega (arith, l .inv .3, ends, l .inv .4, s .pre .1 .1) in
+    roots-end (hashesOf (a .kit) (a .seed .now)) (a .tree) (a .pair) (a .a) (a .ds .now) (l .j) (l .out)
+    (drop (l .at) (a .sig .now)) (omega arith) (rw (take-all (l .o) (l .out) full) at (l .inv .5))
+
+pub roots-in-spec : {M : Type 1} → statement M
+roots-in-spec =
+    tie.close
+    (tie.spec Inv-loop μ-loop mul-step add-step loop-holds (λ c. omega (arith, room c .part-left)) (λ c. search needs)
+    (λ c. search needs) add-leaf (λ c. search needs) (λ c. search needs)
+    (λ c. omega (arith, room (c .before) .part-left)) tree-root-requires (λ c. search needs)
+    (λ c. search needs) (λ c. search needs) put-requires add-base (λ c. search needs) (λ c. search needs) loop-again
+    (λ c. c .before .loop .inv .4) returns)

@@ -1,8 +1,0 @@
--- Laws on plain values, in reading order; callers cite those of Laws.
-pub mod Each
-pub mod Rounds
-pub mod Stream
-pub mod Lanes
-pub mod Pad
-pub mod Blocks
-pub mod Laws

@@ -1,6 +1,0 @@
--- FIPS 202, in reading order, and last the stream that the code follows.
-pub mod Constants
-pub mod Keccak
-pub mod Sponge
-pub mod Shake
-pub mod Stream

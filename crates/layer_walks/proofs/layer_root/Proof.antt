@@ -1,0 +1,28 @@
+-- `layer_root` climbs from the leaf that the chain values lead to.
+-- Assumes nothing.
+use borrow.Author.Needs.{needs}
+use Rattle.calls.specs.Hashes.{hashesOf}
+use Rattle.layer_walks.proofs.LayerLaws.{layer-made, layer-calls}
+use Rattle.layer_walks.proofs.layer_root.Statement.{statement}
+use Rattle.layer_walks.proofs.layer_root.Tie as tie
+
+returns : tie.Need-returns
+returns c =
+    let low = c .before .before .before in
+    let s = low .before .before .before .before .before in
+    let a = s .args in
+    let w = hashesOf (a .kit) (a .seed .now) in (
+      layer-made w (a .hp) (a .layer) (a .tree) (a .i) (a .sig .now) (a .m .now) (low .leaf-from .ensures .0)
+          (c .climb .ensures),
+      (
+        layer-calls w (a .hp) (a .layer) (a .tree) (a .i) (a .sig .now) (a .m .now) _ (low .leaf-from .ensures .1 .0),
+        search needs,
+      ),
+    )
+
+pub layer-root-spec : {M : Type 1} → statement M
+layer-root-spec =
+    tie.close
+    (tie.spec (λ c. search needs) (λ c. search needs) (λ c. search needs) (λ c. search needs) (λ c. search needs)
+    (λ c. search needs) (λ c κs. search needs) (λ c. search needs) (λ c. search needs) (λ c. search needs)
+    (λ c κs. search needs) returns)

@@ -1,0 +1,20 @@
+-- `layer_seal_in` lends `layer_seal_over` room for 67 digits.
+-- Assumes nothing.
+use Prim.Native.Nat.{_+_, _*_}
+use native.Mathlib.Omega.{arith}
+use borrow.Author.Needs.{needs}
+use Rattle.lists.proofs.Parts.{zeros-part}
+use Rattle.layer_writes.proofs.layer_seal_in.Statement.{statement}
+use Rattle.layer_writes.proofs.layer_seal_in.Tie as tie
+
+layer-seal-over-requires : tie.Need-layer-seal-over-requires
+layer-seal-over-requires c κs =
+    let s = c .before .before .before .before .before .before .before in
+    let n = s .args .kit .n in
+    ((s .pre .0, s .pre .1, s .pre .2), (zeros-part (2 * n + 3) 67 (omega (arith, s .pre .0)), s .pre .3))
+
+pub layer-seal-in-spec : {M : Type 1} → statement M
+layer-seal-in-spec =
+    tie.close
+    (tie.spec (λ c. search needs) (λ c. search needs) (λ c. search needs) (λ c. search needs) (λ c. search needs)
+    layer-seal-over-requires (λ c. search needs) (λ c. search needs))

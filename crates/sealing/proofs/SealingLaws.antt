@@ -1,0 +1,56 @@
+-- What sealing promises, from what its tests and its work gave, on plain values.
+-- Assumes nothing.
+use mathlib.Core.Path.{_≡_, refl, sym, _∙_}
+use mathlib.Core.Bool.{true, _&&_, _||_}
+use mathlib.Core.Option.{Option, some, none}
+use Prim.Native.Nat.{ℕ}
+use lib.Dec.{eqb}
+use lib.ListN.{length}
+use borrow.Author.Tests.{eqb-true}
+use Rattle.rules.specs.Places.{Bytes}
+use Rattle.rules.specs.Sets.{Row}
+use Rattle.rules.specs.Seal.{frame, sealOf}
+use Rattle.calls.specs.Hashes.{familyFor}
+use Rattle.answers.specs.Answers.{number, smallest, settled, messageFits}
+use Rattle.sealing.specs.Seals.{Sealed, sealAnswer}
+use Rattle.answers.specs.declared.Answer.{Answer}
+use Rattle.answers.specs.declared.Answer.the-variants.{Done, UnknownSet}
+use Rattle.answers.proofs.TestLaws.{passed, both-pass}
+use Rattle.answers.proofs.AnswerLaws.{settled-made, settled-kept}
+
+-- A promise under a row is the promise under the same row by another name.
+module _ {row other : Option Row} (e : row ≡ other) where
+  pub seal-by : {secret message random out out′ : Bytes} {answer : Answer}
+      → Sealed other secret message random out answer out′ → Sealed row secret message random out answer out′
+  seal-by k = rw e k
+
+module _ (secret message random out : Bytes) where
+  pub seal-unknown : Sealed none secret message random out UnknownSet out
+  unfolding smallest settled
+  seal-unknown = record { answered = refl; out-is = refl }
+
+  module _ (r : Row) where
+    pub seal-done : {out′ : Bytes} → sealAnswer (some r) secret message random out ≡ 0
+        → out′ ≡ sealOf r (familyFor r) secret random (frame message) .result
+        → Sealed (some r) secret message random out Done out′
+    seal-done z e = record {
+      answered = sym z;
+      out-is = e ∙ sym (settled-made _ (some r)
+          (λ r. sealOf r (familyFor r) secret random (frame message) .result) out r z refl);
+    }
+
+    pub seal-refused : {answer : Answer} → number answer ≡ sealAnswer (some r) secret message random out
+        → (sealAnswer (some r) secret message random out ≡ 0 → ⊥) → Sealed (some r) secret message random out answer out
+    seal-refused e h = record {
+      answered = e;
+      out-is = sym (settled-kept _ (some r) (λ r. sealOf r (familyFor r) secret random (frame message) .result) out h);
+    }
+
+    pub seal-long : sealAnswer (some r) secret message random out ≡ 0
+        → (length secret ≡ r .secretBytes) × (length out ≡ r .sealBytes)
+    seal-long z =
+        let t = passed (eqb (length secret) (r .secretBytes) && (eqb (length random) 0 || eqb (length random) (r .n)))
+        (messageFits (length message)) (eqb (length out) (r .sealBytes)) true z in (
+          eqb-true _ _ (both-pass (eqb (length secret) (r .secretBytes)) _ (t .lengths-pass) .0),
+          eqb-true _ _ (t .room-passes),
+        )

@@ -1,0 +1,90 @@
+-- `seal_over` writes the randomizer, reads where the message points with it, and writes the rest for that place.
+-- Assumes nothing.
+use mathlib.Core.Path.{_≡_, _∙_}
+use Prim.Native.Nat.{_-_, _≤_}
+use native.Mathlib.Omega.{arith}
+use lib.ListN.{length}
+use borrow.Rule.Slice.PartMut.{putMid, same-len-mid}
+use borrow.Author.Needs.{needs}
+use Rattle.rules.specs.Places.{Bytes}
+use Rattle.rows.specs.Rows.{ruledRow}
+use Rattle.calls.specs.Hashes.{familyFor}
+use Rattle.points.proofs.PointLaws.{in-key}
+use Rattle.rows.proofs.SizeLaws.{seal-size}
+use Rattle.lists.proofs.Lent.{front-long}
+use Rattle.seals.proofs.SealLaws.{rest-long, seal-made}
+use Rattle.seals.proofs.seal_over.Statement.{statement}
+use Rattle.seals.proofs.seal_over.Tie as tie
+
+abbrev start : tie.After-seal-randomizer-in → tie.Start
+start c = c .before .before .before .before .before .before .before
+
+-- What was written for the randomizer, and the whole after it.
+abbrev part : tie.After-seal-randomizer-in → Bytes
+part c = c .seal-randomizer-in .last .1 .1 .1 .1 .0
+
+abbrev whole : tie.After-seal-randomizer-in → Bytes
+whole c =
+    let a = start c .args in
+    putMid 0 (a .row .n - 0) (a .out .now) (part c)
+
+-- The part has its length, and the whole keeps its own.
+record Begun (c : tie.After-seal-randomizer-in) : Type 0 where
+  part-long : length (part c) ≡ start c .args .row .n
+  whole-long : length (whole c) ≡ length (start c .args .out .now)
+  room : start c .args .row .n ≤ length (whole c)
+
+begun : (c : tie.After-seal-randomizer-in) → Begun c
+begun c =
+    let s = start c in
+    let a = s .args in
+    let n = a .row .n in
+    let kept = c .seal-randomizer-in .kept .1 .1 .1 .1 .0 in
+    let room : n ≤ length (a .out .now) = omega (arith, s .pre .3, seal-size (ruledRow (a .row)) (s .pre .0)) in
+    let same = same-len-mid 0 (n - 0) (a .out .now) (part c) kept in
+    record {
+      part-long = kept ∙ front-long n (a .out .now) room;
+      whole-long = same;
+      room = omega (arith, room, same);
+    }
+
+written-in-requires : tie.Need-written-in-requires
+written-in-requires c κs =
+    let p = c .before .before .before .before .before .before in
+    let m = p .before .before .before .before .before .before .before .before in
+    let s = start m in
+    let q = in-key (ruledRow (s .args .row)) (s .pre .0 .legal) _ (p .aim .ensures) in
+    let rest = rest-long (s .args .row .n) (whole m) (begun m .room) in
+    ((s .pre .0, rest ∙ begun m .whole-long ∙ s .pre .3), (q .indices-long, q .indices-below, q .leaf-lt))
+
+same-length-2 : tie.Need-same-length-2
+same-length-2 c =
+    let w = c .before .before in
+    let p = w .before .before .before .before .before .before .before in
+    let m = p .before .before .before .before .before .before .before .before in
+    let n = start m .args .row .n in
+    same-len-mid n (length (whole m) - n) (whole m) (w .written-in .last .1 .1 .1 .1 .1 .0)
+    (w .written-in .kept .1 .1 .1 .1 .1 .0)
+    ∙ begun m .whole-long
+
+returns : tie.Need-returns
+returns c =
+    let w = c .before .before in
+    let p = w .before .before .before .before .before .before .before in
+    let m = p .before .before .before .before .before .before .before .before in
+    let s = start m in
+    let a = s .args in
+    let r = ruledRow (a .row) in
+    let long = s .pre .1 ∙ s .pre .0 .legal .secret-long in
+    seal-made r (familyFor r) (a .secret .now) (a .random .now) (a .message .now) long (a .out .now)
+    (begun m .part-long) (m .seal-randomizer-in .ensures) (p .aim .ensures) (w .written-in .ensures)
+
+pub seal-over-spec : {M : Type 1} → statement M
+seal-over-spec =
+    tie.close
+    (tie.spec (λ c. search needs) (λ c. search needs) (λ c. search needs) (λ c. search needs) (λ c. search needs)
+    (λ c κs. search needs) (λ c. search needs) (λ c. search needs) (λ c. search needs) (λ c. search needs)
+    (λ c. search needs) (λ c. search needs) (λ c. search needs) (λ c. search needs) (λ c. search needs)
+    (λ c κs. search needs) (λ c. search needs) (λ c. search needs) (λ c. search needs) (λ c. search needs)
+    (λ c. search needs) (λ c. search needs) (λ c. search needs) (λ c. search needs) (λ c. search needs)
+    written-in-requires (λ c. search needs) same-length-2 returns)
