@@ -8,7 +8,7 @@ ghost use Rattle.shake.specs.Shake.{shake256};
 pub extern "C" fn skimdral_permute(s: &mut [u64; 25])
     ensures { λ _. ⌜ now (s .exit) ≡ keccak-f (now (s .entry)) ⌝ }
 {
-    keccak::permute(s)
+    permutation::permute(s)
 }
 
 #[no_mangle]

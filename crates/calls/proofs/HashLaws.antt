@@ -6,7 +6,7 @@ use Prim.Native.Nat.{ℕ}
 use lib.ListN.{length, take}
 use Rattle.lists.proofs.Parts.{front-part}
 use Rattle.shake.specs.Shake.{rate256, shake256}
-use Rattle.shake.specs.Stream.{Sponge, empty, feed, finish, draw}
+use Rattle.sponge.specs.Stream.{Sponge, empty, feed, finish, draw}
 use Rattle.shake.proofs.Laws.{shaken, feed-append}
 use Rattle.rules.specs.Places.{Bytes}
 

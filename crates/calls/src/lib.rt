@@ -4,7 +4,7 @@ ghost use mathlib.Core.List.{_++_};
 ghost use Prim.Native.Nat.{_≤_};
 ghost use lib.ListN.{length, take};
 ghost use Rattle.shake.specs.Shake.{rate256, shake256};
-ghost use Rattle.shake.specs.Stream.{sponge, feed, finish, draw};
+ghost use Rattle.sponge.specs.Stream.{sponge, feed, finish, draw};
 ghost use Rattle.rules.specs.Calls.{Function};
 ghost use Rattle.addresses.specs.Addresses.{bytesOf};
 ghost use Rattle.calls.specs.Hashes.{familyOf};

@@ -13,10 +13,10 @@ use answers::first_failed;
 use answers::message_fits;
 use answers::number_of;
 use answers::same;
+use checks::checked_root;
 use rows::Found;
 use rows::Row;
 use rows::find_row;
-use checks::checked_root;
 
 // An answer, and the F calls that were made for it.
 pub struct Verdict {

@@ -21,7 +21,8 @@ use Rattle.rules.specs.Check.{layersPart, rootAt, checkedRoot}
 use Rattle.counts.specs.Counts.{is, count}
 use Rattle.counts.proofs.CountLaws.{count-append}
 use Rattle.rows.specs.Ready.{Ready}
-use Rattle.rows.proofs.SizeLaws.{forestSize, layerSize, seal-size, layers-start, first-piece, rest-piece}
+use Rattle.rows.specs.Shapes.{forestSize, layerSize}
+use Rattle.rows.proofs.SizeLaws.{seal-size, layers-start, first-piece, rest-piece}
 use Rattle.forest_walks.proofs.ForestLaws.{forest-calls}
 use Rattle.layer_walks.proofs.UpLaws.{up-calls, up-most}
 

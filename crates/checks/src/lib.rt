@@ -12,12 +12,12 @@ ghost use Rattle.rows.specs.Ready.{Ready};
 ghost use Rattle.calls.specs.Hashes.{familyFor};
 ghost use Rattle.points.specs.At.{at};
 use calls::Kit;
-use rows::Row;
 use climbs::Walked;
-use points::Pointed;
-use points::aim;
 use forest_walks::forest_root;
 use layer_walks::layers_root;
+use points::Pointed;
+use points::aim;
+use rows::Row;
 
 // The root at the place pointed to (lines 14 to 17).
 fn root_at(row: Row, seed: &[u8], pointed: Pointed, indices: &[u32], seal: &[u8]) -> Walked

@@ -15,20 +15,12 @@ use calls::Kit;
 use calls::f;
 use calls::t;
 use climbs::Walked;
-use parts::put;
 use climbs::climb;
 use climbs::groves::Grove;
+use parts::put;
 
 // The root of a tree, from its secret value and its path, at leaf i of all trees.
-fn tree_root(
-    kit: Kit,
-    seed: &[u8],
-    tree: u64,
-    pair: u32,
-    a: u32,
-    i: u32,
-    part: &[u8],
-) -> [u8; 32]
+fn tree_root(kit: Kit, seed: &[u8], tree: u64, pair: u32, a: u32, i: u32, part: &[u8]) -> [u8; 32]
     requires { ⌜ (kit .n ≤ 32) × (length (now part) ≡ kit .n + a * kit .n) ⌝ }
     ensures { λ r. ⌜ take (kit .n) r ≡ climbRun (hashesOf kit (now (seed .entry))) (forestNode tree pair) a 0 i
         (hashesOf kit (now (seed .entry)) .hash Function.F (address (forestNode tree pair 0 i))

@@ -5,7 +5,7 @@ use mathlib.Core.List.{[], _∷_}
 use Rattle.keccak.specs.Constants.{walk, offsets, register, rc, constantBits, constant}
 use Rattle.keccak.specs.Keccak.{rotated, inverted, lane, each, state, C, D, θ, ρ, π, χ, ι, round, rounds, keccak-f}
 use Rattle.shake.specs.Shake.{suffix, shake256}
-use Rattle.shake.specs.Sponge.{digits, number, spread, gather, pad, padded, _⊕_, absorb, squeeze, keccak}
+use Rattle.sponge.specs.Sponge.{digits, number, spread, gather, pad, padded, _⊕_, absorb, squeeze, keccak}
 
 -- The first 32 bytes.
 pub abc : shake256 (0x61 ∷ 0x62 ∷ 0x63 ∷ []) 32

@@ -8,9 +8,9 @@ ghost use Rattle.rows.specs.Rows.{ruledRow};
 ghost use Rattle.rows.specs.Ready.{Ready};
 ghost use Rattle.calls.specs.Hashes.{familyFor};
 use calls::Kit;
-use rows::Row;
-use parts::put;
 use climbs::groves::Grove;
+use parts::put;
+use rows::Row;
 use trees::nodes::node;
 
 // The root of the single tree in the topmost layer (lines 1 to 3).

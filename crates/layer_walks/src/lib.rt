@@ -11,9 +11,9 @@ ghost use Rattle.rows.specs.Shapes.{Stack};
 use calls::Kit;
 use chains::Spot;
 use climbs::Walked;
-use leaves::leaf_from;
 use climbs::climb;
 use climbs::groves::Grove;
+use leaves::leaf_from;
 
 // The root of a layer's tree, from its part of a seal, for the value m that leaf i seals.
 pub fn layer_root(

@@ -1,19 +1,16 @@
--- The laws of the layers' parts of a seal on plain values: what is written and what is left to write are the whole.
+-- The law of a layer's part of a seal on plain values: what the chains show and the path, each in its place, are it.
 -- Assumes nothing.
-use mathlib.Core.Path.{_≡_, sym, ap, ap₂, _∙_}
-use mathlib.Core.List.{List, _++_, append-assoc, append-nil}
-use Prim.Native.Nat.{ℕ, suc, _+_, _-_, _*_, _/_, _%_, _^_, _≤_, _<_}
-use native.Mathlib.Numerals.{add-one}
-use native.Mathlib.Omega.{arith}
+use mathlib.Core.Path.{_≡_, ap, ap₂, _∙_}
+use mathlib.Core.List.{List, _++_}
+use Prim.Native.Nat.{ℕ, _-_}
 use borrow.Rule.Slice.PartMut.{putMid}
-use lib.ListN.{length, take}
-use Rattle.lists.proofs.Lent.{front}
+use lib.ListN.{length}
 use Rattle.lists.proofs.Filling.{both-written}
 use Rattle.rules.specs.Places.{Bytes}
 use Rattle.rules.specs.Calls.{Hashes}
 use Rattle.rules.specs.Chains.{chainDigits, shown}
 use Rattle.rules.specs.Trees.{path}
-use Rattle.rules.specs.Layers.{layerTree, layerSeal, layerRoot, layersSeal}
+use Rattle.rules.specs.Layers.{layerTree, layerSeal}
 
 module _ (w : Hashes) (h' : ℕ) (sk : Bytes) where
   -- What the chains show and the path, each in its place.
@@ -25,28 +22,3 @@ module _ (w : Hashes) (h' : ℕ) (sk : Bytes) where
   unfolding layerSeal
   layer-written l t i size m out {ds} {xs} {ys} long e f g =
       both-written size out xs ys long ∙ ap₂ _++_ (f ∙ ap (λ x. shown w l t i sk 0 x .result) e) g
-
-  -- A turn of the layers: layer j's part, and then those above it, for the root that it leads to. The value v is lent
-  -- with its first n bytes.
-  pub layers-turn : (top j t i size n : ℕ) (v done ys root : Bytes) {whole : Bytes} → j < top → size ≡ 2 ^ h'
-      → ys ≡ layerSeal w h' sk j t i (take (n - 0) v) .result
-      → root ≡ layerRoot w h' j t i ys (take (n - 0) v) .result
-      → done ++ layersSeal w h' sk (top - j) j t i (take n v) .result ≡ whole
-      → (done ++ ys) ++ layersSeal w h' sk (top - (j + 1)) (j + 1) (t / size) (t % size) root .result ≡ whole
-  unfolding layersSeal
-  layers-turn top j t i size n v done ys root h s e f q =
-      let left : top - j ≡ suc (top - suc j) = omega arith in
-      rw (append-assoc, f, e, s, add-one j, front n v) (rw left at q)
-
-  -- At the top the one layer is left.
-  pub layers-end : (top j t i n : ℕ) (v done ys : Bytes) {whole : Bytes} → top ≤ j
-      → ys ≡ layerSeal w h' sk j t i (take (n - 0) v) .result
-      → done ++ layersSeal w h' sk (top - j) j t i (take n v) .result ≡ whole → done ++ ys ≡ whole
-  unfolding layersSeal
-  layers-end top j t i n v done ys h e q =
-      let none : top - j ≡ 0 = omega arith in
-      rw (e, front n v) (rw none at q)
-
--- Above the number of a tree's leaf there is room for as many numbers as the tree has leaves.
-pub leaf-room : (h' size i : ℕ) → size ≡ 2 ^ h' → size + size ≤ 2 ^ 32 → i < size → i + 2 ^ h' ≤ 2 ^ 32
-leaf-room h' size i e h l = rw (sym e) (omega arith)

@@ -12,10 +12,10 @@ use answers::Answer;
 use answers::both;
 use answers::first_failed;
 use answers::number_of;
+use keys::keys_in;
 use rows::Found;
 use rows::Row;
 use rows::find_row;
-use keys::keys_in;
 
 // The tests of the lengths.
 fn keys_answer(row: Row, sk: usize, prf: usize, pk: usize, public: usize, secret: usize) -> Answer

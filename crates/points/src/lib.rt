@@ -10,9 +10,9 @@ ghost use Rattle.rows.specs.Ready.{Ready};
 ghost use Rattle.calls.specs.Hashes.{familyFor};
 use calls::Kit;
 use calls::digest_in;
-use rows::Row;
 use digits::digits;
 use digits::to_int;
+use rows::Row;
 
 // The tree in layer 0, and the leaf in it.
 pub struct Pointed {

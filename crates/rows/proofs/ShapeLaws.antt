@@ -7,7 +7,8 @@ use Rattle.lists.proofs.Bits.{one-shifted}
 use Rattle.rules.specs.Sets.{Row}
 use Rattle.rows.specs.Shapes.{Wood, Stack}
 use Rattle.rows.specs.Ready.{Ready}
-use Rattle.rows.proofs.SizeLaws.{forestSize, layerSize, forest-leaves, layer-leaves}
+use Rattle.rows.specs.Shapes.{forestSize, layerSize}
+use Rattle.rows.proofs.SizeLaws.{forest-leaves, layer-leaves}
 
 module _ (r : Row) (ready : Ready r) where
   pub wood : (trees sig : ℕ) → trees ≡ r .k → sig ≡ forestSize r → Wood (r .n) (r .a) trees sig

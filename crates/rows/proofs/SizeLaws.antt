@@ -17,13 +17,7 @@ use Rattle.rules.specs.Keys.{piece}
 use Rattle.rules.specs.Seal.{partStart}
 use Rattle.rules.proofs.SealLaws.{seal-parts}
 use Rattle.rows.specs.Ready.{Ready}
-
--- The bytes of the forest's part of a seal, and of a layer's, as code works them out.
-abbrev pub forestSize : Row → ℕ
-forestSize r = r .k * (r .n + r .a * r .n)
-
-abbrev pub layerSize : Row → ℕ
-layerSize r = chains (r .n) * r .n + r .h' * r .n
+use Rattle.rows.specs.Shapes.{forestSize, layerSize}
 
 module _ (r : Row) (ready : Ready r) where
   -- A tree's part, and the forest's, are small.

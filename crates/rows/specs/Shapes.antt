@@ -3,6 +3,7 @@
 use mathlib.Core.Path.{_≡_}
 use Prim.Native.Nat.{ℕ, _+_, _*_, _^_, _≤_, _<_}
 use Rattle.rules.specs.Chains.{chains}
+use Rattle.rules.specs.Sets.{Row}
 
 -- A forest of k trees of height a, at most 35, whose leaves are counted in 32 bits, and its part of a seal.
 pub record Wood (n a k sig : ℕ) : Type 0 where
@@ -20,3 +21,10 @@ pub record Stack (n h' size d sig : ℕ) : Type 0 where
   pub some : 0 < d
   pub few : d < 2 ^ 16
   pub sig-long : sig ≡ d * (chains (n) * n + h' * n)
+
+-- The bytes of the forest's part of a seal, and of a layer's, as code works them out.
+abbrev pub forestSize : Row → ℕ
+forestSize r = r .k * (r .n + r .a * r .n)
+
+abbrev pub layerSize : Row → ℕ
+layerSize r = chains (r .n) * r .n + r .h' * r .n

@@ -19,7 +19,8 @@ use Rattle.rules.specs.Digest.{Pointed, pointed}
 use Rattle.rules.specs.Keys.{piece}
 use Rattle.rules.specs.Seal.{frame, mixedIn, randomizerOf, digestOf, written, sealWith, sealOf}
 use Rattle.rows.specs.Ready.{Ready}
-use Rattle.rows.proofs.SizeLaws.{forestSize, layerSize, seal-size, first-piece, third-piece, last-piece}
+use Rattle.rows.specs.Shapes.{forestSize, layerSize}
+use Rattle.rows.proofs.SizeLaws.{seal-size}
 
 -- ---- The randomizer
 
@@ -65,8 +66,7 @@ module _ (r : Row) (ready : Ready r) (out : Bytes) (long : length out + r .n ≡
 module _ (r : Row) (f : Family (r .n) (r .m)) (sk pk : Bytes) (at : Pointed) where
   pub written-made : (m : ℕ) (out : Bytes) {xs ys v : Bytes} → length xs ≡ m
       → xs ≡ forestSeal (under f pk) (at .tree) (at .leaf) (r .a) sk 0 (at .indices) .result
-      → v ≡ forestRoot (under f pk) (at .tree) (at .leaf) (r .a) (at .indices)
-      (take (m - 0) (putMid 0 (m - 0) out xs)) .result
+      → v ≡ forestRoot (under f pk) (at .tree) (at .leaf) (r .a) (at .indices) xs .result
       → ys ≡ layersSeal (under f pk) (r .h') sk (r .d - 1) 0 (at .tree) (at .leaf) v .result
       → putMid m (length (putMid 0 (m - 0) out xs) - m) (putMid 0 (m - 0) out xs) ys ≡ written r f sk pk at .result
   unfolding written
@@ -74,44 +74,32 @@ module _ (r : Row) (f : Family (r .n) (r .m)) (sk pk : Bytes) (at : Pointed) whe
       let low : Bytes → Bytes = λ x. forestRoot (under f pk) (at .tree) (at .leaf) (r .a) (at .indices) x .result in
       let up : Bytes → Bytes =
       λ x. layersSeal (under f pk) (r .h') sk (r .d - 1) 0 (at .tree) (at .leaf) x .result in
-      both-written m out xs ys long
-      ∙ ap₂ _++_ e (h ∙ ap up (g ∙ ap low (front-is m out xs long ∙ e)))
+      both-written m out xs ys long ∙ ap₂ _++_ e (h ∙ ap up (g ∙ ap low e))
 
 -- ---- The whole seal, on a secret key as bytes and a message
 
-module _ (r : Row) (f : Family (r .n) (r .m)) (secret random message : Bytes) (long : length secret ≡ 4 * r .n) where
+module _ (r : Row) (f : Family (r .n) (r .m)) (secret random message : Bytes) where
   abbrev sk : Bytes
-  sk = take (r .n - 0) secret
+  sk = piece (r .n) 0 secret
 
   abbrev pk : Bytes
-  pk = take (3 * r .n - 2 * r .n) (drop (2 * r .n) secret)
+  pk = piece (r .n) 2 secret
 
-  abbrev root : Bytes
-  root = take (length secret - 3 * r .n) (drop (3 * r .n) secret)
+  abbrev aimed : Bytes → Pointed
+  aimed R = pointed r (digestOf r f R pk (piece (r .n) 3 secret) (frame message) .result)
 
-  -- What follows the randomizer, by the pieces of the key as code lends them.
-  rest-is : (R : Bytes) {p : Pointed} {ys : Bytes}
-      → p ≡ pointed r (digestOf r f R pk root (frame message) .result) → ys ≡ written r f sk pk p .result
-      → R ++ ys ≡ sealWith r f R (piece (r .n) 0 secret) (piece (r .n) 2 secret) (piece (r .n) 3 secret)
-      (frame message) .result
+  -- What follows the randomizer.
+  rest-is : (R : Bytes) {p : Pointed} {ys : Bytes} → p ≡ aimed R → ys ≡ written r f sk pk p .result
+      → R ++ ys ≡ sealWith r f R sk pk (piece (r .n) 3 secret) (frame message) .result
   unfolding sealWith
-  rest-is R e g =
-      let at : (k s : Bytes) → Pointed = λ k s. pointed r (digestOf r f R k s (frame message) .result) in
-      let last = last-piece (r .n) secret 3 (omega (arith, long)) in
-      let third = third-piece (r .n) secret in
-      ap (λ (x : Bytes). R ++ x)
-      (g ∙ ap₂ (λ s q. written r f s pk q .result) (first-piece (r .n) secret) (e ∙ ap (at pk) last)
-      ∙ ap (λ k. written r f (piece (r .n) 0 secret) k (at k (piece (r .n) 3 secret)) .result) third)
+  rest-is R e g = ap (λ (x : Bytes). R ++ x) (g ∙ ap (λ q. written r f sk pk q .result) e)
 
   pub seal-made : (out : Bytes) {R ys : Bytes} {p : Pointed} → length R ≡ r .n
-      → R ≡ randomizerOf r f (piece (r .n) 1 secret) (mixedIn random (piece (r .n) 2 secret)) (frame message) .result
-      → p ≡ pointed r (digestOf r f (take (r .n - 0) (putMid 0 (r .n - 0) out R)) pk root (frame message) .result)
-      → ys ≡ written r f sk pk p .result
+      → R ≡ randomizerOf r f (piece (r .n) 1 secret) (mixedIn random pk) (frame message) .result
+      → p ≡ aimed (take (r .n - 0) (putMid 0 (r .n - 0) out R)) → ys ≡ written r f sk pk p .result
       → putMid (r .n) (length (putMid 0 (r .n - 0) out R) - r .n) (putMid 0 (r .n - 0) out R) ys
       ≡ sealOf r f secret random (frame message) .result
   unfolding sealOf
   seal-made out {R} {ys} lr e g h =
-      let at : Bytes → Pointed = λ x. pointed r (digestOf r f x pk root (frame message) .result) in
-      both-written (r .n) out R ys lr ∙ rest-is R (g ∙ ap at (front-is (r .n) out R lr)) h
-      ∙ ap (λ x. sealWith r f x (piece (r .n) 0 secret) (piece (r .n) 2 secret) (piece (r .n) 3 secret)
-      (frame message) .result) e
+      both-written (r .n) out R ys lr ∙ rest-is R (g ∙ ap aimed (front-is (r .n) out R lr)) h
+      ∙ ap (λ x. sealWith r f x sk pk (piece (r .n) 3 secret) (frame message) .result) e

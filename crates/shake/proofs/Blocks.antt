@@ -14,12 +14,12 @@ use Rattle.lists.specs.Below.{Below}
 use Rattle.lists.proofs.Below.{below-take, below-drop, below-append}
 use Rattle.keccak.specs.Keccak.{keccak-f}
 use Rattle.shake.specs.Shake.{suffix}
-use Rattle.shake.specs.Sponge.{digits, number, spread, gather, padded, _⊕_, absorb, squeeze, keccak}
-use Rattle.shake.specs.Stream.{Sponge, sponge, turn, feed, empty, finish, draw}
-use Rattle.shake.proofs.Lanes.{lane-in, lane-out}
+use Rattle.sponge.specs.Sponge.{digits, number, spread, gather, padded, _⊕_, absorb, squeeze, keccak}
+use Rattle.sponge.specs.Stream.{Sponge, sponge, turn, feed, empty, finish, draw}
+use Rattle.sponge.proofs.Lanes.{lane-in, lane-out}
 use Rattle.shake.proofs.Pad.{low, padding, length-padding, below-padding, below-low, feed-low, finished, padded-bytes}
 use Rattle.keccak.proofs.Rounds.{length-keccak-f}
-use Rattle.shake.proofs.Stream.{turn-no, turn-yes, feed-append, turn-feed, draw-add, drawn-in, draw-turn, draw-front}
+use Rattle.sponge.proofs.Stream.{turn-no, turn-yes, feed-append, turn-feed, draw-add, drawn-in, draw-turn, draw-front}
 
 -- ---- Zeros add nothing
 

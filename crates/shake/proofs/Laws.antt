@@ -8,9 +8,9 @@ use native.Mathlib.Omega.{arith}
 use lib.ListN.{length, take}
 use Rattle.lists.specs.Below.{Below}
 use Rattle.shake.specs.Shake.{rate256, shake256}
-use Rattle.shake.specs.Stream.{Sponge, empty, feed, finish, draw, drawn}
+use Rattle.sponge.specs.Stream.{Sponge, empty, feed, finish, draw, drawn}
 use Rattle.shake.proofs.Blocks.{keccak-stream}
-use Rattle.shake.proofs.Stream as Stream
+use Rattle.sponge.proofs.Stream as Stream
 
 -- SHAKE256 of m: m is fed, the sponge finished and n bytes drawn.
 pub shaken : (m : List ℕ) (n : ℕ) → shake256 m n ≡ draw rate256 n (finish rate256 (feed rate256 empty m))

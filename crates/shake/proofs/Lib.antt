@@ -1,6 +1,4 @@
 -- Laws on plain values, in reading order; callers cite those of Laws.
-pub mod Stream
-pub mod Lanes
 pub mod Pad
 pub mod Blocks
 pub mod Laws

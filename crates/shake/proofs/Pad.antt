@@ -15,10 +15,10 @@ use lib.Bits.{bitXor, xor-zero-r}
 use Rattle.lists.specs.Below.{Below}
 use Rattle.lists.proofs.Below.{below-cons, below-append, below-replicate, below-test}
 use Rattle.shake.specs.Shake.{suffix}
-use Rattle.shake.specs.Sponge.{digits, number, spread, gather, pad, padded}
-use Rattle.shake.specs.Stream.{Sponge, Rate, sponge, mixed, turn, step, put, feed, empty, close, finish}
-use Rattle.shake.proofs.Stream.{turn-no, turn-yes, feed-append}
-use Rattle.shake.proofs.Lanes.{set-twice}
+use Rattle.sponge.specs.Sponge.{digits, number, spread, gather, pad, padded}
+use Rattle.sponge.specs.Stream.{Sponge, Rate, sponge, mixed, turn, step, put, feed, empty, close, finish}
+use Rattle.sponge.proofs.Stream.{turn-no, turn-yes, feed-append}
+use Rattle.sponge.proofs.Lanes.{set-twice}
 
 -- The n + 1 bytes that end a block.
 unfoldable pub padding : ℕ → List ℕ

@@ -2,7 +2,7 @@
 -- Assumes nothing.
 use Prim.Native.Nat.{ℕ}
 use mathlib.Core.List.{List, [], _∷_}
-use Rattle.shake.specs.Sponge.{keccak}
+use Rattle.sponge.specs.Sponge.{keccak}
 
 -- The suffix of the extendable-output functions.
 unfoldable pub suffix : List ℕ

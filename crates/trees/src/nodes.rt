@@ -6,14 +6,14 @@ ghost use Rattle.rules.specs.Forest.{forestLeaf};
 ghost use Rattle.rules.specs.Trees.{node};
 ghost use Rattle.calls.specs.Hashes.{hashesOf};
 ghost use Rattle.climbs.specs.Groves.{treeOf};
-use climbs::groves::Grove;
-use climbs::groves::node_address;
 use addresses::address_at;
 use calls::Kit;
 use calls::f_in;
 use calls::h;
 use calls::secret_in;
 use chains::Spot;
+use climbs::groves::Grove;
+use climbs::groves::node_address;
 use leaves::leaf;
 
 // Leaf i of a forest: F of its secret value, in the room lent.

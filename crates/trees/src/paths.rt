@@ -5,9 +5,9 @@ ghost use lib.ListN.{length};
 ghost use Rattle.rules.specs.Trees.{sibling, path};
 ghost use Rattle.calls.specs.Hashes.{hashesOf};
 ghost use Rattle.climbs.specs.Groves.{treeOf};
-use climbs::groves::Grove;
 use crate::nodes::node;
 use calls::Kit;
+use climbs::groves::Grove;
 use parts::put;
 
 // The index of the other child of the same node.

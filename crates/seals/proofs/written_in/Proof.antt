@@ -10,7 +10,8 @@ use Rattle.rules.specs.Places.{Bytes}
 use Rattle.rows.specs.Rows.{ruledRow}
 use Rattle.points.specs.At.{at}
 use Rattle.calls.specs.Hashes.{familyFor}
-use Rattle.rows.proofs.SizeLaws.{forestSize, tree-room, forest-leaves, layer-leaves, seal-size}
+use Rattle.rows.specs.Shapes.{forestSize}
+use Rattle.rows.proofs.SizeLaws.{tree-room, forest-leaves, layer-leaves, seal-size}
 use Rattle.rows.proofs.ShapeLaws.{wood, stack, leaves-are}
 use Rattle.seals.proofs.SealLaws.{forest-long, layers-long, written-made}
 use Rattle.seals.proofs.written_in.Statement.{statement}
