@@ -3,8 +3,7 @@ ghost use mathlib.Core.Path.{_≡_};
 ghost use mathlib.Core.List.{_++_};
 ghost use Prim.Native.Nat.{_≤_};
 ghost use lib.ListN.{length, take};
-ghost use Rattle.shake.specs.Shake.{rate256, shake256};
-ghost use Rattle.sponge.specs.Stream.{sponge, feed, finish, draw};
+ghost use Rattle.shake.specs.Shake.{shake256};
 ghost use Rattle.rules.specs.Calls.{Function};
 ghost use Rattle.addresses.specs.Addresses.{bytesOf};
 ghost use Rattle.calls.specs.Hashes.{familyOf};
@@ -17,24 +16,6 @@ pub struct Kit {
     pub m: usize,
 }
 
-// Two pieces, one after the other.
-fn absorb_two(s: &mut [u64; 25], at: usize, a: &[u8], b: &[u8]) -> usize
-    ensures { λ r. ⌜ sponge (now (s .exit)) r
-        ≡ feed rate256 (sponge (now (s .entry)) at) (now (a .entry) ++ now (b .entry)) ⌝ }
-{
-    let p = shake::absorb(s, at, a);
-    shake::absorb(s, p, b)
-}
-
-// The message ends, and the whole of out is filled.
-fn end(s: &mut [u64; 25], at: usize, out: &mut [u8])
-    ensures { λ _. ⌜ now (out .exit)
-        ≡ draw rate256 (length (now (out .entry))) (finish rate256 (sponge (now (s .entry)) at)) ⌝ }
-{
-    let p = shake::finish(s, at);
-    let _q = shake::squeeze(s, p, out);
-}
-
 // F in place.
 pub fn f_in(kit: Kit, seed: &[u8], adrs: Address, io: &mut [u8])
     requires { ⌜ length (now io) ≡ kit .n ⌝ }
@@ -43,9 +24,9 @@ pub fn f_in(kit: Kit, seed: &[u8], adrs: Address, io: &mut [u8])
 {
     let b = address_bytes(adrs);
     let mut s = [0u64; 25];
-    let p = absorb_two(&mut s, 0, seed, &b);
+    let p = shake::absorb_two(&mut s, 0, seed, &b);
     let q = shake::absorb(&mut s, p, io);
-    end(&mut s, q, io);
+    shake::end(&mut s, q, io);
 }
 
 // A call with one input.
@@ -55,9 +36,9 @@ fn call(seed: &[u8], adrs: Address, input: &[u8], out: &mut [u8])
 {
     let b = address_bytes(adrs);
     let mut s = [0u64; 25];
-    let p = absorb_two(&mut s, 0, seed, &b);
+    let p = shake::absorb_two(&mut s, 0, seed, &b);
     let q = shake::absorb(&mut s, p, input);
-    end(&mut s, q, out);
+    shake::end(&mut s, q, out);
 }
 
 // A secret value.
@@ -106,10 +87,10 @@ pub fn h(kit: Kit, seed: &[u8], adrs: Address, left: &[u8], right: &[u8]) -> [u8
     let n = kit.n;
     let b = address_bytes(adrs);
     let mut s = [0u64; 25];
-    let p = absorb_two(&mut s, 0, seed, &b);
-    let q = absorb_two(&mut s, p, left, right);
+    let p = shake::absorb_two(&mut s, 0, seed, &b);
+    let q = shake::absorb_two(&mut s, p, left, right);
     let mut out = [0u8; 32];
-    end(&mut s, q, &mut out[0..n]);
+    shake::end(&mut s, q, &mut out[0..n]);
     out
 }
 
@@ -127,9 +108,9 @@ pub fn randomizer_in(
         ≡ familyOf kit .PRFmsg (now (prf .entry)) (now (mixed .entry)) (now (before .entry) ++ now (message .entry)) ⌝ }
 {
     let mut s = [0u64; 25];
-    let p = absorb_two(&mut s, 0, prf, mixed);
-    let q = absorb_two(&mut s, p, before, message);
-    end(&mut s, q, out);
+    let p = shake::absorb_two(&mut s, 0, prf, mixed);
+    let q = shake::absorb_two(&mut s, p, before, message);
+    shake::end(&mut s, q, out);
 }
 
 // The digest of the framed message.
@@ -147,8 +128,8 @@ pub fn digest_in(
         (now (before .entry) ++ now (message .entry)) ⌝ }
 {
     let mut s = [0u64; 25];
-    let p = absorb_two(&mut s, 0, r, seed);
+    let p = shake::absorb_two(&mut s, 0, r, seed);
     let q = shake::absorb(&mut s, p, root);
-    let t = absorb_two(&mut s, q, before, message);
-    end(&mut s, t, out);
+    let t = shake::absorb_two(&mut s, q, before, message);
+    shake::end(&mut s, t, out);
 }

@@ -1,8 +1,8 @@
-// θ and ρ, the step mappings of KECCAK-f[1600] that mix columns and rotate lanes (FIPS 202, 3.2.1 and 3.2.2), plainly: a
-// loop over the 25 lanes in each.
+// θ, ρ and π, the step mappings of KECCAK-f[1600] that mix columns, rotate lanes and move them (FIPS 202, 3.2.1 to
+// 3.2.3), plainly: a loop over the 25 lanes, or a list of them.
 ghost use mathlib.Core.Path.{_≡_};
 ghost use Prim.Native.Nat.{_<_};
-ghost use Rattle.keccak.specs.Keccak.{each, C, D, rotated, θ, ρ};
+ghost use Rattle.keccak.specs.Keccak.{each, C, D, rotated, θ, ρ, π};
 
 // The offsets of ρ: that of the lane at column x and row y is at 5y + x.
 const OFFSETS: [u32; 25] = [
@@ -92,4 +92,37 @@ pub fn rho(a: &[u64; 25]) -> [u64; 25]
         i += 1;
     }
     b
+}
+
+// Lane (x, y) comes from (x + 3y, x).
+pub fn pi(a: &[u64; 25]) -> [u64; 25]
+    ensures { λ r. ⌜ r ≡ π (now (a .entry)) ⌝ }
+{
+    [
+        a[0],
+        a[6],
+        a[12],
+        a[18],
+        a[24],
+        a[3],
+        a[9],
+        a[10],
+        a[16],
+        a[22],
+        a[1],
+        a[7],
+        a[13],
+        a[19],
+        a[20],
+        a[4],
+        a[5],
+        a[11],
+        a[17],
+        a[23],
+        a[2],
+        a[8],
+        a[14],
+        a[15],
+        a[21],
+    ]
 }

@@ -25,6 +25,10 @@ module _ {A : Type 0} where
   pub rest-read : (m : ℕ) (l : List A) → take (length l - m) (drop m l) ≡ drop m l
   rest-read m l = take-all (length l - m) (drop m l) (le-of-eq (length-drop m l))
 
+  -- It is that much shorter.
+  pub rest-long : (m : ℕ) (l : List A) → m ≤ length l → length (take (length l - m) (drop m l)) + m ≡ length l
+  rest-long m l h = ap (λ (x : List A). length x + m) (rest-read m l) ∙ omega (arith, length-drop m l)
+
   -- What was written over the first m elements is the first m.
   pub front-written : (m : ℕ) (l ys : List A) → length ys ≡ m → take m (putMid 0 (m - 0) l ys) ≡ ys
   front-written m l ys e = take-at ys _ m e

@@ -1,6 +1,7 @@
-// KECCAK-f[1600] (FIPS 202, 3.2 to 3.4), plainly: a function for each step mapping, and 24 rounds of them.
+// KECCAK-f[1600] (FIPS 202, 3.2 to 3.4): χ and ι, plainly, and 24 rounds of the step mappings.
 ghost use mathlib.Core.Path.{_≡_};
-ghost use Rattle.keccak.specs.Keccak.{π, χ, round as roundOf, keccak-f};
+ghost use Rattle.keccak.specs.Keccak.{χ, round as roundOf, keccak-f};
+use keccak::pi;
 use keccak::rho;
 use keccak::theta;
 
@@ -31,39 +32,6 @@ const CONSTANTS: [u64; 24] = [
     0x0000000080000001,
     0x8000000080008008,
 ];
-
-// Lane (x, y) comes from (x + 3y, x).
-fn pi(a: &[u64; 25]) -> [u64; 25]
-    ensures { λ r. ⌜ r ≡ π (now (a .entry)) ⌝ }
-{
-    [
-        a[0],
-        a[6],
-        a[12],
-        a[18],
-        a[24],
-        a[3],
-        a[9],
-        a[10],
-        a[16],
-        a[22],
-        a[1],
-        a[7],
-        a[13],
-        a[19],
-        a[20],
-        a[4],
-        a[5],
-        a[11],
-        a[17],
-        a[23],
-        a[2],
-        a[8],
-        a[14],
-        a[15],
-        a[21],
-    ]
-}
 
 // Row by row: y is the place of the row's first lane.
 fn chi(a: &[u64; 25]) -> [u64; 25]

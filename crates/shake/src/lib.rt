@@ -2,6 +2,7 @@
 // pieces, finish once, squeeze pieces. Each function returns the place that the next one takes. Callers go by these
 // contracts and the laws of proofs/Laws.antt.
 ghost use mathlib.Core.Path.{_≡_};
+ghost use mathlib.Core.List.{_++_};
 ghost use lib.ListN.{length};
 ghost use Rattle.shake.specs.Shake.{rate256, shake256};
 ghost use Rattle.sponge.specs.Stream.{sponge, feed, finish as finished, draw, drawn};
@@ -30,6 +31,24 @@ pub fn squeeze(s: &mut [u64; 25], at: usize, out: &mut [u8]) -> usize
     ensures { λ r. ⌜ now (out .exit) ≡ draw rate256 (length (now (out .entry))) (sponge (now (s .entry)) at) ⌝ }
 {
     sponge::squeeze(s, RATE, at, out)
+}
+
+// Two pieces, one after the other.
+pub fn absorb_two(s: &mut [u64; 25], at: usize, a: &[u8], b: &[u8]) -> usize
+    ensures { λ r. ⌜ sponge (now (s .exit)) r
+        ≡ feed rate256 (sponge (now (s .entry)) at) (now (a .entry) ++ now (b .entry)) ⌝ }
+{
+    let p = absorb(s, at, a);
+    absorb(s, p, b)
+}
+
+// The message ends, and the whole of out is filled.
+pub fn end(s: &mut [u64; 25], at: usize, out: &mut [u8])
+    ensures { λ _. ⌜ now (out .exit)
+        ≡ draw rate256 (length (now (out .entry))) (finished rate256 (sponge (now (s .entry)) at)) ⌝ }
+{
+    let p = finish(s, at);
+    let _q = squeeze(s, p, out);
 }
 
 // SHAKE256 of one piece fills out.

@@ -8,11 +8,12 @@ use borrow.Rule.Slice.PartMut.{putMid, same-len-mid}
 use borrow.Author.Needs.{needs}
 use Rattle.rules.specs.Places.{Bytes}
 use Rattle.rows.specs.Rows.{ruledRow}
+use Rattle.rows.proofs.SizeLaws.{seal-size}
 use Rattle.calls.specs.Hashes.{familyFor}
 use Rattle.points.proofs.PointLaws.{in-key}
-use Rattle.rows.proofs.SizeLaws.{seal-size}
+use Rattle.lists.proofs.Filling.{rest-long}
 use Rattle.lists.proofs.Lent.{front-long}
-use Rattle.seals.proofs.SealLaws.{rest-long, seal-made}
+use Rattle.seals.proofs.SealLaws.{seal-made}
 use Rattle.seals.proofs.seal_over.Statement.{statement}
 use Rattle.seals.proofs.seal_over.Tie as tie
 
@@ -48,43 +49,40 @@ begun c =
       room = omega (arith, room, same);
     }
 
-written-in-requires : tie.Need-written-in-requires
-written-in-requires c κs =
-    let p = c .before .before .before .before .before .before in
-    let m = p .before .before .before .before .before .before .before .before in
+abbrev randomized : tie.After-seal-aim → tie.After-seal-randomizer-in
+randomized p = p .before .before .before .before .before .before
+
+seal-rest-in-requires : tie.Need-seal-rest-in-requires
+seal-rest-in-requires c κs =
+    let p = c .before .before .before .before in
+    let m = randomized p in
     let s = start m in
-    let q = in-key (ruledRow (s .args .row)) (s .pre .0 .legal) _ (p .aim .ensures) in
+    let q = in-key (ruledRow (s .args .row)) (s .pre .0 .legal) _ (p .seal-aim .ensures) in
     let rest = rest-long (s .args .row .n) (whole m) (begun m .room) in
-    ((s .pre .0, rest ∙ begun m .whole-long ∙ s .pre .3), (q .indices-long, q .indices-below, q .leaf-lt))
+    ((s .pre .0, s .pre .1, rest ∙ begun m .whole-long ∙ s .pre .3), (q .indices-long, q .indices-below, q .leaf-lt))
 
 same-length-2 : tie.Need-same-length-2
 same-length-2 c =
     let w = c .before .before in
-    let p = w .before .before .before .before .before .before .before in
-    let m = p .before .before .before .before .before .before .before .before in
+    let m = randomized (w .before .before .before .before .before) in
     let n = start m .args .row .n in
-    same-len-mid n (length (whole m) - n) (whole m) (w .written-in .last .1 .1 .1 .1 .1 .0)
-    (w .written-in .kept .1 .1 .1 .1 .1 .0)
+    same-len-mid n (length (whole m) - n) (whole m) (w .seal-rest-in .last .1 .1 .1 .1 .0)
+    (w .seal-rest-in .kept .1 .1 .1 .1 .0)
     ∙ begun m .whole-long
 
 returns : tie.Need-returns
 returns c =
     let w = c .before .before in
-    let p = w .before .before .before .before .before .before .before in
-    let m = p .before .before .before .before .before .before .before .before in
-    let s = start m in
-    let a = s .args in
+    let p = w .before .before .before .before .before in
+    let m = randomized p in
+    let a = start m .args in
     let r = ruledRow (a .row) in
-    let long = s .pre .1 ∙ s .pre .0 .legal .secret-long in
-    seal-made r (familyFor r) (a .secret .now) (a .random .now) (a .message .now) long (a .out .now)
-    (begun m .part-long) (m .seal-randomizer-in .ensures) (p .aim .ensures) (w .written-in .ensures)
+    seal-made r (familyFor r) (a .secret .now) (a .message .now) (a .random .now) (a .out .now) (begun m .part-long)
+    (m .seal-randomizer-in .ensures) (p .seal-aim .ensures) (w .seal-rest-in .ensures)
 
 pub seal-over-spec : {M : Type 1} → statement M
 seal-over-spec =
     tie.close
-    (tie.spec (λ c. search needs) (λ c. search needs) (λ c. search needs) (λ c. search needs) (λ c. search needs)
-    (λ c κs. search needs) (λ c. search needs) (λ c. search needs) (λ c. search needs) (λ c. search needs)
-    (λ c. search needs) (λ c. search needs) (λ c. search needs) (λ c. search needs) (λ c. search needs)
-    (λ c κs. search needs) (λ c. search needs) (λ c. search needs) (λ c. search needs) (λ c. search needs)
-    (λ c. search needs) (λ c. search needs) (λ c. search needs) (λ c. search needs) (λ c. search needs)
-    written-in-requires (λ c. search needs) same-length-2 returns)
+    (tie.spec (λ c. search needs) (λ c. search needs) (λ c. search needs) (λ c κs. search needs) (λ c. search needs)
+    (λ c. search needs) (λ c. search needs) (λ c κs. search needs) (λ c. search needs) (λ c. search needs)
+    (λ c. search needs) seal-rest-in-requires (λ c. search needs) same-length-2 returns)

@@ -2,9 +2,9 @@
 -- Assumes nothing.
 use mathlib.Core.Path.{_≡_, sym, ap, _∙_}
 use borrow.Author.Needs.{needs}
 use Rattle.shake.proofs.Laws.{feed-append}
-use Rattle.calls.proofs.absorb_two.Statement.{statement}
-use Rattle.calls.proofs.absorb_two.Tie as tie
+use Rattle.shake.proofs.absorb_two.Statement.{statement}
+use Rattle.shake.proofs.absorb_two.Tie as tie
 
 returns : tie.Need-returns
 returns c = rw feed-append (cc)

@@ -1,8 +1,8 @@
 -- `end` draws from the finished sponge.
 -- Assumes nothing.
 use borrow.Author.Needs.{needs}
-use Rattle.calls.proofs.end.Statement.{statement}
-use Rattle.calls.proofs.end.Tie as tie
+use Rattle.shake.proofs.end.Statement.{statement}
+use Rattle.shake.proofs.end.Tie as tie
 
 returns : tie.Need-returns
 returns c = cc

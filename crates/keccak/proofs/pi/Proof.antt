@@ -2,9 +2,9 @@
 -- Assumes nothing.
 use mathlib.Core.Path.{refl}
 use borrow.Author.Needs.{needs}
 use Rattle.keccak.specs.Keccak.{π, each, state, lane}
-use Rattle.permutation.proofs.pi.Statement.{statement}
-use Rattle.permutation.proofs.pi.Tie as tie
+use Rattle.keccak.proofs.pi.Statement.{statement}
+use Rattle.keccak.proofs.pi.Tie as tie
 
 returns : tie.Need-returns
 unfolding π state each lane
