@@ -1,4 +1,5 @@
-//! Answers the stored cases of the desk, `crates/vectors/stdin`, one a line, in the form of `second::cases`.
+//! Answers cases of the desk from standard input, one a line, in the form of `second::cases`. What it answers to
+//! `vectors/desk-cases.txt` is `vectors/desk-answers.txt`.
 //!
 //! The refusals follow the scope's table: the smallest number that applies, and outputs, which hold zeros before,
 //! unchanged. Lines that start with `# ` are copied; one that is no case is answered `bad line`.
