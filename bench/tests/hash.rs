@@ -1,6 +1,7 @@
-//! The proved hash against the second implementation's, and against the buffers that it is lent: it changes no byte
-//! beside the output, and what stood in the output before doesn't matter.
+//! The proved hash against the second implementation's and stored values, and against the buffers that it is lent: it
+//! changes no byte beside the output, and what stood in the output before doesn't matter.
 
+use second::cases::hex;
 use second::keccak::shake256;
 
 /// Guard bytes on each side of a buffer.
@@ -49,6 +50,22 @@ fn every_short_length() {
 fn long_messages_and_outputs() {
     for (length, output) in [(65_535, 32), (65_536, 64), (65_538, 0), (65_538, 16), (64, 65_538), (65_538, 65_538)] {
         compare(&message(length), output);
+    }
+}
+
+/// Ten messages at six output lengths, a line each: the lengths of both, and the output as Python's hashlib gives it
+/// (`hashlib.shake_256`, Python 3.11 over OpenSSL 3.0).
+#[test]
+fn values_of_pythons_hashlib() {
+    let lines: Vec<&str> = include_str!("shake256.txt").lines().collect();
+    assert_eq!(lines.len(), 60);
+    for line in lines {
+        let fields: Vec<&str> = line.split(' ').collect();
+        let [length, output, value] = fields[..] else { panic!("no value: {line}") };
+        let [length, output] = [length, output].map(|text| text.parse().expect("a length"));
+        let mut out = vec![0xff; output];
+        bench::shake256(&message(length), &mut out);
+        assert_eq!(hex(&out), value, "{length} bytes hashed to {output}");
     }
 }
 

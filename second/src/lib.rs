@@ -51,6 +51,9 @@ pub mod external;
 
 pub mod bytes;
 
+// Stored cases, for whoever is compared with this.
+pub mod cases;
+
 pub use bytes::*;
 pub use calls::{Call, Kind, Log, Tally};
 pub use error::Error;

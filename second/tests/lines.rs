@@ -2,21 +2,11 @@
 
 mod common;
 
-use common::{hex, read};
-use std::io::Write;
-use std::process::{Command, Stdio};
+use common::{hex, read, run};
 
 fn answers(requests: &[String]) -> Vec<String> {
-    let mut child = Command::new(env!("CARGO_BIN_EXE_lines"))
-        .stdin(Stdio::piped())
-        .stdout(Stdio::piped())
-        .spawn()
-        .expect("the program starts");
-    let text = requests.iter().map(|request| format!("{request}\n")).collect::<String>();
-    child.stdin.take().expect("its input").write_all(text.as_bytes()).expect("it reads");
-    let output = child.wait_with_output().expect("it ends");
-    assert!(output.status.success());
-    String::from_utf8(output.stdout).expect("text").lines().map(str::to_string).collect()
+    let text = run(env!("CARGO_BIN_EXE_lines"), &(requests.join("\n") + "\n"));
+    text.lines().map(str::to_string).collect()
 }
 
 #[test]

@@ -2,34 +2,47 @@
 
 mod common;
 
-use common::{hex, read, Line};
+use common::{hex, read, run, Line};
 use second::keccak::shake256;
 use second::sha2::sha256;
 use second::{sign, SETS};
 use std::collections::HashMap;
-use std::fs::{self, File};
-use std::path::{Path, PathBuf};
-use std::process::Command;
 
-fn stored(file: &str) -> PathBuf {
-    Path::new(env!("CARGO_MANIFEST_DIR")).join("../crates/vectors").join(file)
-}
+const CASES: &str = include_str!("../vectors/desk-cases.txt");
+const ANSWERS: &str = include_str!("../vectors/desk-answers.txt");
 
 /// The stored answer to each stored case.
-fn answers() -> HashMap<String, String> {
-    let text = |file| fs::read_to_string(stored(file)).unwrap_or_else(|error| panic!("{file}: {error}"));
-    let (cases, answers) = (text("stdin"), text("stdout"));
-    assert_eq!(cases.lines().count(), answers.lines().count(), "a line for each case");
-    cases.lines().map(str::to_string).zip(answers.lines().map(str::to_string)).collect()
+fn answers() -> HashMap<&'static str, &'static str> {
+    assert_eq!(CASES.lines().count(), ANSWERS.lines().count(), "a line for each case");
+    CASES.lines().zip(ANSWERS.lines()).collect()
 }
 
 #[test]
 fn what_is_stored_is_what_this_program_answers() {
-    let input = File::open(stored("stdin")).expect("the stored cases");
-    let output = Command::new(env!("CARGO_BIN_EXE_vectors")).stdin(input).output().expect("the program runs");
-    assert!(output.status.success());
-    let expected = fs::read(stored("stdout")).expect("the stored answers");
-    assert!(output.stdout == expected, "the stored answers differ");
+    let answers = run(env!("CARGO_BIN_EXE_vectors"), CASES);
+    assert!(!answers.contains("bad line"), "a stored line is no case");
+    assert!(answers == ANSWERS, "the stored answers differ");
+}
+
+#[test]
+fn lines_that_are_no_cases() {
+    let lines = [
+        "",
+        "#",
+        "keys",
+        "keys 1 *16 *16 *16 32",
+        "keys 1 *16 *16 *16 32 64 0",
+        "seal x *64 - - 7856",
+        "seal 1 *64 -- - 7856",
+        "check 1 *32 0 *7856",
+        "check 1 *32 0g *7856",
+        "check 1 *32 0A *7856",
+        "part 1 *7856 100000",
+        "digits 1 *16 -",
+        "other 1",
+    ];
+    let answers = run(env!("CARGO_BIN_EXE_vectors"), &(lines.join("\n") + "\n"));
+    assert_eq!(answers, "bad line\n".repeat(lines.len()));
 }
 
 /// Key making: three published cases of set 1 and five of set 2 are stored, with the published keys.
@@ -40,7 +53,7 @@ fn published_keys() {
     for line in read("keygen.txt", 60, 4).iter().filter(|line| line.number(0) <= 2) {
         let (seeds, keys) = (line.text(1), format!("0 {} {}", line.text(2), line.text(3)));
         let case = format!("keys {} {} {} {} 32 64", line.text(0), &seeds[..32], &seeds[32..64], &seeds[64..]);
-        if let Some(answer) = answers.get(&case) {
+        if let Some(answer) = answers.get(case.as_str()) {
             assert_eq!(*answer, keys, "{}", line.place);
             found[line.number(0)] += 1;
         }
@@ -66,9 +79,9 @@ fn published_seals() {
             let seal = sign(set, &line.bytes(5), b"", &line.bytes(2), addrnd).expect(&line.place);
             assert_eq!(hex(&sha256(&seal)), line.text(6), "{}", line.place);
             let sealing = format!("seal {set} {secret} {message} {random} {}", SETS[set as usize - 1].seal);
-            assert_eq!(answers[&sealing], format!("0 {}", hex(&shake256(&seal, 32))), "{}", line.place);
+            assert_eq!(answers[sealing.as_str()], format!("0 {}", hex(&shake256(&seal, 32))), "{}", line.place);
             let checking = format!("check {set} {} {message} {}", &secret[64..], hex(&seal));
-            assert!(answers[&checking].starts_with("0 "), "{}", line.place);
+            assert!(answers[checking.as_str()].starts_with("0 "), "{}", line.place);
             found += 1;
         }
         assert_eq!(found, 1, "published cases of set {set} with an empty context");
@@ -83,7 +96,7 @@ fn published_checks() {
     for line in of_the_desk(lines) {
         let case = format!("check {} {} {} {}", line.text(0), line.text(2), line.text(4), line.text(5));
         let answer = if line.text(6) == "accept" { "0 " } else { "5 " };
-        assert!(answers[&case].starts_with(answer), "{}", line.place);
+        assert!(answers[case.as_str()].starts_with(answer), "{}", line.place);
     }
 }
 

@@ -18,34 +18,16 @@ const SEALS: [usize; 8] = [0, 1, 7855, 7856, 7857, 17087, 17088, 17089];
 const DIGITS: [usize; 6] = [0, 1, 32, CHAINS - 1, CHAINS, CHAINS + 1];
 const PARTS: [u32; 13] = [0, 1, 2, 7, 8, 9, 10, 22, 23, 24, 25, 0x1_0000, u32::MAX];
 
-/// A buffer of random bytes between fences, with a copy of its content.
-struct Buffer {
-    fenced: Fenced<u8>,
-    content: Vec<u8>,
-}
+type Buffer = Fenced<u8>;
 
-impl Buffer {
-    fn new(random: &mut Random, length: usize) -> Buffer {
-        let content = random.bytes(length);
-        Buffer { fenced: Fenced::new(random.next() as u8, random.below(8), &content), content }
-    }
-
-    fn lent(&self) -> &[u8] {
-        self.fenced.lent()
-    }
-
-    fn lent_mut(&mut self) -> &mut [u8] {
-        self.fenced.lent_mut()
-    }
-
-    fn is_unchanged(&self) -> bool {
-        self.fenced.is(&self.content)
-    }
+/// A buffer of random bytes between fences.
+fn buffer(random: &mut Random, length: usize) -> Buffer {
+    Fenced::drawn(random, length, |random| random.next() as u8)
 }
 
 /// A buffer of each length, made once: a refusal changes none, so all calls may share them.
 fn buffers<const N: usize>(random: &mut Random, lengths: [usize; N]) -> [Buffer; N] {
-    lengths.map(|length| Buffer::new(random, length))
+    lengths.map(|length| buffer(random, length))
 }
 
 fn all_unchanged<const N: usize>(buffers: &[&Buffer; N], what: &str) {
@@ -59,7 +41,7 @@ fn keys_are_the_seconds(set: u32, seeds: [&Buffer; 3], outputs: [&mut Buffer; 2]
     let [a, b, c] = seeds.map(Buffer::lent);
     let (public, secret) = second::keygen(set, a, b, c).expect("legal seeds");
     for (output, expected) in outputs.into_iter().zip([public, secret]) {
-        assert!(output.fenced.is(&expected), "set {set}: another key, or a byte beside it was changed");
+        assert!(output.is(&expected), "set {set}: another key, or a byte beside it was changed");
         let content = output.content.clone();
         output.lent_mut().copy_from_slice(&content);
     }
@@ -151,12 +133,12 @@ fn legal_seals_between_fences() {
     let cases = [(2, 0, 0), (2, 1, 16), (2, 87, 0), (2, 103, 16), (2, 1000, 16), (2, MESSAGE_LIMIT, 0), (1, 300, 16)];
     for (set, message, hedge) in cases {
         let row = row(set).expect("a set");
-        let [secret, message, hedge] = [row.secret_key, message, hedge].map(|length| Buffer::new(random, length));
-        let mut seal = Buffer::new(random, row.seal);
+        let [secret, message, hedge] = [row.secret_key, message, hedge].map(|length| buffer(random, length));
+        let mut seal = buffer(random, row.seal);
         assert_eq!(face::seal(set, secret.lent(), message.lent(), hedge.lent(), seal.lent_mut()), 0);
         let addrnd = if hedge.content.is_empty() { None } else { Some(&hedge.content[..]) };
         let expected = second::sign(set, &message.content, &[], &secret.content, addrnd).expect("legal");
-        assert!(seal.fenced.is(&expected), "another seal, or a byte beside it was changed");
+        assert!(seal.is(&expected), "another seal, or a byte beside it was changed");
         all_unchanged(&[&secret, &message, &hedge], "a legal sealing");
     }
 }

@@ -8,6 +8,7 @@
 //!
 //! Messages are in the plain frame with an empty context. A refused request is answered `refused` and the reason.
 
+use second::cases::hex;
 use std::io::{self, BufRead, Write};
 
 fn main() -> io::Result<()> {
@@ -68,8 +69,4 @@ fn bytes(text: &str) -> Result<Vec<u8>, String> {
     let digits: Option<Vec<u32>> = text.chars().map(|c| c.to_digit(16)).collect();
     let digits = digits.ok_or_else(bad)?;
     Ok(digits.chunks_exact(2).map(|pair| (16 * pair[0] + pair[1]) as u8).collect())
-}
-
-fn hex(bytes: &[u8]) -> String {
-    bytes.iter().map(|byte| format!("{byte:02x}")).collect()
 }

@@ -1,12 +1,17 @@
-//! What several test files need: reading vectors, hex, a small generator of test bytes, and stand-in families.
+//! What several test files need: reading vectors, hex, running a program, a small generator of test bytes, and stand-in
+//! families.
 
-#![allow(dead_code)] // each test file uses a part of this
+#![allow(dead_code, unused_imports)] // each test file uses a part of this
+
+pub use second::cases::hex;
 
 use second::address::Address;
 use second::sets::Params;
 use second::Family;
 use std::fs;
+use std::io::Write;
 use std::path::Path;
+use std::process::{Command, Stdio};
 
 /// A line of a vectors file, with its place for messages.
 pub struct Line {
@@ -55,8 +60,14 @@ pub fn unhex(text: &str) -> Vec<u8> {
     (0..text.len()).step_by(2).map(|i| u8::from_str_radix(&text[i..i + 2], 16).expect("hex")).collect()
 }
 
-pub fn hex(bytes: &[u8]) -> String {
-    bytes.iter().map(|byte| format!("{byte:02x}")).collect()
+/// What a program writes when it is given this text to read.
+pub fn run(program: &str, input: &str) -> String {
+    let mut child =
+        Command::new(program).stdin(Stdio::piped()).stdout(Stdio::piped()).spawn().expect("the program starts");
+    child.stdin.take().expect("its input").write_all(input.as_bytes()).expect("it reads");
+    let output = child.wait_with_output().expect("it ends");
+    assert!(output.status.success());
+    String::from_utf8(output.stdout).expect("text")
 }
 
 /// The generator splitmix64, seeded by each test with a number of its own.
