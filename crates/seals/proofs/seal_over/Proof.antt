@@ -6,42 +6,43 @@ use native.Mathlib.Omega.{arith}
 use lib.ListN.{length}
 use borrow.Rule.Slice.PartMut.{putMid, same-len-mid}
 use borrow.Author.Needs.{needs}
+use Rattle.lists.proofs.Filling.{rest-long}
+use Rattle.lists.proofs.Lent.{front-long}
 use Rattle.rules.specs.Places.{Bytes}
+use Rattle.rules.specs.Seal.{mixedIn}
 use Rattle.rows.specs.Rows.{ruledRow}
 use Rattle.rows.proofs.SizeLaws.{seal-size}
 use Rattle.calls.specs.Hashes.{familyFor}
 use Rattle.points.proofs.PointLaws.{in-key}
-use Rattle.lists.proofs.Filling.{rest-long}
-use Rattle.lists.proofs.Lent.{front-long}
-use Rattle.seals.proofs.SealLaws.{seal-made}
+use Rattle.seals.proofs.SealLaws.{randomizer-made, seal-made}
 use Rattle.seals.proofs.seal_over.Statement.{statement}
 use Rattle.seals.proofs.seal_over.Tie as tie
 
-abbrev start : tie.After-seal-randomizer-in → tie.Start
-start c = c .before .before .before .before .before .before .before
+abbrev start : tie.After-randomizer-in → tie.Start
+start c = c .before .before .before .before .before .before .before .before .before .before .before .before
 
 -- What was written for the randomizer, and the whole after it.
-abbrev part : tie.After-seal-randomizer-in → Bytes
-part c = c .seal-randomizer-in .last .1 .1 .1 .1 .0
+abbrev part : tie.After-randomizer-in → Bytes
+part c = c .randomizer-in .last .1 .1 .1 .1 .1 .0
 
-abbrev whole : tie.After-seal-randomizer-in → Bytes
+abbrev whole : tie.After-randomizer-in → Bytes
 whole c =
     let a = start c .args in
     putMid 0 (a .row .n - 0) (a .out .now) (part c)
 
 -- The part has its length, and the whole keeps its own.
-record Begun (c : tie.After-seal-randomizer-in) : Type 0 where
+record Begun (c : tie.After-randomizer-in) : Type 0 where
   part-long : length (part c) ≡ start c .args .row .n
   whole-long : length (whole c) ≡ length (start c .args .out .now)
   room : start c .args .row .n ≤ length (whole c)
 
-begun : (c : tie.After-seal-randomizer-in) → Begun c
+begun : (c : tie.After-randomizer-in) → Begun c
 begun c =
     let s = start c in
     let a = s .args in
     let n = a .row .n in
-    let kept = c .seal-randomizer-in .kept .1 .1 .1 .1 .0 in
-    let room : n ≤ length (a .out .now) = omega (arith, s .pre .3, seal-size (ruledRow (a .row)) (s .pre .0)) in
+    let kept = c .randomizer-in .kept .1 .1 .1 .1 .1 .0 in
+    let room : n ≤ length (a .out .now) = omega (arith, s .pre .2, seal-size (ruledRow (a .row)) (s .pre .0)) in
     let same = same-len-mid 0 (n - 0) (a .out .now) (part c) kept in
     record {
       part-long = kept ∙ front-long n (a .out .now) room;
@@ -49,26 +50,21 @@ begun c =
       room = omega (arith, room, same);
     }
 
-abbrev randomized : tie.After-seal-aim → tie.After-seal-randomizer-in
+abbrev randomized : tie.After-aim → tie.After-randomizer-in
 randomized p = p .before .before .before .before .before .before
 
-seal-rest-in-requires : tie.Need-seal-rest-in-requires
-seal-rest-in-requires c κs =
+-- The rest begins within the bytes lent.
+rest-start : tie.Need-sub-written-in
+rest-start c = omega (arith, begun (randomized (c .before .before .before)) .room)
+
+written-in-requires : tie.Need-written-in-requires
+written-in-requires c κs =
     let p = c .before .before .before .before in
     let m = randomized p in
     let s = start m in
-    let q = in-key (ruledRow (s .args .row)) (s .pre .0 .legal) _ (p .seal-aim .ensures) in
+    let q = in-key (ruledRow (s .args .row)) (s .pre .0 .legal) _ (p .aim .ensures) in
     let rest = rest-long (s .args .row .n) (whole m) (begun m .room) in
-    ((s .pre .0, s .pre .1, rest ∙ begun m .whole-long ∙ s .pre .3), (q .indices-long, q .indices-below, q .leaf-lt))
-
-same-length-2 : tie.Need-same-length-2
-same-length-2 c =
-    let w = c .before .before in
-    let m = randomized (w .before .before .before .before .before) in
-    let n = start m .args .row .n in
-    same-len-mid n (length (whole m) - n) (whole m) (w .seal-rest-in .last .1 .1 .1 .1 .0)
-    (w .seal-rest-in .kept .1 .1 .1 .1 .0)
-    ∙ begun m .whole-long
+    ((s .pre .0, rest ∙ begun m .whole-long ∙ s .pre .2), (q .indices-long, q .indices-below, q .leaf-lt))
 
 returns : tie.Need-returns
 returns c =
@@ -77,12 +73,14 @@ returns c =
     let m = randomized p in
     let a = start m .args in
     let r = ruledRow (a .row) in
-    seal-made r (familyFor r) (a .secret .now) (a .message .now) (a .random .now) (a .out .now) (begun m .part-long)
-    (m .seal-randomizer-in .ensures) (p .seal-aim .ensures) (w .seal-rest-in .ensures)
+    let made = randomizer-made r (familyFor r) (a .prf .now) (mixedIn (a .random .now) (a .seed .now)) (a .message .now)
+    (m .before .before .before .mixed-in .ensures) (m .randomizer-in .ensures) in
+    seal-made r (familyFor r) (a .sk .now) (a .seed .now) (a .root .now) (a .message .now) (a .out .now)
+    (begun m .part-long) made (p .aim .ensures) (w .written-in .ensures)
 
 pub seal-over-spec : {M : Type 1} → statement M
 seal-over-spec =
     tie.close
-    (tie.spec (λ c. search needs) (λ c. search needs) (λ c. search needs) (λ c κs. search needs) (λ c. search needs)
-    (λ c. search needs) (λ c. search needs) (λ c κs. search needs) (λ c. search needs) (λ c. search needs)
-    (λ c. search needs) seal-rest-in-requires (λ c. search needs) same-length-2 returns)
+    (tie.spec (λ c κs. search needs) (λ c. search needs) (λ c. search needs) (λ c. search needs) (λ c. search needs)
+    (λ c κs. search needs) (λ c. search needs) (λ c. search needs) (λ c. search needs) (λ c κs. search needs)
+    rest-start rest-start (λ c. search needs) written-in-requires (λ c. search needs) (λ c. search needs) returns)
