@@ -1,4 +1,4 @@
--- The laws of the forest's walk on plain values: a tree is F of its secret value and the climb from it, and the forest
+-- The laws of the forest's walk on plain values: what is done and what is left of the trees are the whole, and the forest
 -- makes one F call a tree.
 -- Assumes nothing.
 use mathlib.Core.Path.{_≡_, sym, ap, ap₂, _∙_}
@@ -8,8 +8,6 @@ use native.Mathlib.Numerals.{add-one}
 use native.Mathlib.Omega.{arith}
 use lib.ListN.{length, take, drop, getD, drop-of-length-le}
 use lib.Seq.{take-take, drop-drop, drop-cons}
-use Rattle.lists.proofs.Lent.{front}
-use Rattle.lists.proofs.Filling.{rest-read}
 use Rattle.lists.proofs.Parts.{drop-take}
 use Rattle.rules.specs.Places.{Bytes, forestNode, forestRoots, address}
 use Rattle.rules.specs.Calls.{F, T, of, Hashes}
@@ -17,19 +15,6 @@ use Rattle.rules.specs.Trees.{climb}
 use Rattle.rules.specs.Forest.{treeBytes, forestWalk, forestRoot}
 use Rattle.counts.specs.Counts.{is, count}
 use Rattle.counts.proofs.CountLaws.{forest-count}
-
-module _ (w : Hashes) where
-  -- A tree of the forest: F of its secret value, and the climb.
-  pub tree-made : (t p a i n : ℕ) (part : Bytes) {at leaf root : Bytes} → at ≡ address (forestNode t p 0 i)
-      → leaf ≡ w .hash F at (take (n - 0) part)
-      → root ≡ climb w (forestNode t p) a 0 i leaf (take (length part - n) (drop n part)) .result
-      → root ≡ climb w (forestNode t p) a 0 i (w .hash F (address (forestNode t p 0 i)) (take n part)) (drop n part)
-      .result
-  tree-made t p a i n part e f g =
-      g ∙ ap₂ (λ v auth. climb w (forestNode t p) a 0 i v auth .result)
-      (f ∙ ap₂ (λ x y. w .hash F x y) e (front n part)) (rest-read n part)
-
--- ---- The trees of the forest
 
 module _ (w : Hashes) (t p a : ℕ) where
   -- What a tree's part leads to at leaf i of all trees.

@@ -13,7 +13,7 @@ use chains::Spot;
 use climbs::Walked;
 use climbs::climb;
 use climbs::groves::Grove;
-use leaves::leaf_from;
+use leaf_walks::leaf_from;
 
 // The root of a layer's tree, from its part of a seal, for the value m that leaf i seals.
 pub fn layer_root(

@@ -1,13 +1,12 @@
 -- The sizes of a ready row: its forest's part is small, and a seal is the randomizer, the forest's part and the
 -- layers'; and the sizes of values of at most 32 bytes.
 -- Assumes nothing.
-use mathlib.Core.Path.{_≡_, sym, ap, _∙_}
+use mathlib.Core.Path.{_≡_, ap₂, _∙_}
 use Prim.Native.Nat.{ℕ, _+_, _-_, _*_, _^_, _≤_, _<_}
-use native.Mathlib.Nat.{mul-le-mul, mul-le-mul-left, mul-le-mul-right, le-trans, sub-zero, zero-mul, one-mul}
+use native.Mathlib.Nat.{mul-le-mul, mul-le-mul-left, mul-le-mul-right, le-trans, zero-mul}
 use native.Mathlib.Omega.{arith}
 use lib.ListN.{length, take, drop}
 use lib.Pow.{pow-mono}
-use Rattle.lists.proofs.Lent.{lent}
 use Rattle.rules.specs.Places.{Bytes}
 use Rattle.rules.specs.Chains.{chains}
 use Rattle.rules.specs.Layers.{layerBytes, chainBytes}
@@ -68,25 +67,17 @@ small-product a n h l = le-trans (mul-le-mul-left a l) (mul-le-mul-right {m = a}
 
 -- ---- The pieces of a key, as code lends them
 
+-- Piece i of a string.
+pub piece-lent : (n i from to : ℕ) (x : Bytes) → from ≡ i * n → to ≡ from + n
+    → take (to - from) (drop from x) ≡ piece n i x
+piece-lent n i from to x e g =
+    let long : to - from ≡ n = omega arith in
+    ap₂ (λ (k m : ℕ). take k (drop m x)) long e
+
 module _ (n : ℕ) (x : Bytes) where
   pub first-piece : take (n - 0) x ≡ piece n 0 x
-  first-piece =
-      ap (λ (k : ℕ). take k x) (sub-zero n) ∙ ap (λ (k : ℕ). take n (drop k x)) (sym (zero-mul n))
-
-  pub second-piece : take (n + n - n) (drop n x) ≡ piece n 1 x
-  second-piece = lent n n x ∙ ap (λ (k : ℕ). take n (drop k x)) (sym (one-mul n))
-
-  pub third-piece : take (3 * n - 2 * n) (drop (2 * n) x) ≡ piece n 2 x
-  third-piece =
-      let left : 3 * n - 2 * n ≡ n = omega arith in
-      ap (λ (k : ℕ). take k (drop (2 * n) x)) left
-
-  pub last-piece : (i : ℕ) → length x ≡ (i + 1) * n → take (length x - i * n) (drop (i * n) x) ≡ piece n i x
-  last-piece i long =
-      let left : length x - i * n ≡ n = omega (arith, long) in
-      ap (λ (k : ℕ). take k (drop (i * n) x)) left
+  first-piece = piece-lent n 0 0 n x (omega arith) (omega arith)
 
   -- The second of two pieces is the rest.
   pub rest-piece : length x ≡ 2 * n → take (length x - n) (drop n x) ≡ piece n 1 x
-  rest-piece long =
-      ap (λ (k : ℕ). take (length x - k) (drop k x)) (sym (one-mul n)) ∙ last-piece 1 (omega (arith, long))
+  rest-piece long = piece-lent n 1 n (length x) x (omega arith) (omega (arith, long))

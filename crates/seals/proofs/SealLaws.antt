@@ -1,40 +1,20 @@
 -- Seals on plain values: what was written piece by piece is the rules' seal.
 -- Assumes nothing.
-use mathlib.Core.Path.{_≡_, refl, sym, ap, ap₂, _∙_}
-use mathlib.Core.List.{[], _∷_, _++_}
+use mathlib.Core.Path.{_≡_, ap, ap₂, _∙_}
+use mathlib.Core.List.{_++_}
 use Prim.Native.Nat.{ℕ, _+_, _-_, _*_}
 use native.Mathlib.Nat.{sub-zero}
 use native.Mathlib.Omega.{arith}
 use borrow.Rule.Slice.PartMut.{putMid}
 use lib.ListN.{length, take, drop}
 use Rattle.lists.proofs.Filling.{front-written, both-written}
-use Rattle.lists.proofs.Parts.{nil-of-length}
 use Rattle.rules.specs.Places.{Bytes}
 use Rattle.rules.specs.Calls.{Family}
 use Rattle.rules.specs.Sets.{Row}
 use Rattle.rules.specs.Digest.{Pointed, pointed}
 use Rattle.rules.specs.Keys.{piece}
 use Rattle.rules.specs.Seal.{frame, mixedIn, randomizerOf, digestOf, written, sealWith, sealOf}
-
--- ---- The randomizer
-
--- The mixed-in bytes, where there is no randomizer input and where there is one.
-pub mixed-none : (random pk : Bytes) → length random ≡ 0 → pk ≡ mixedIn random pk
-unfolding mixedIn
-mixed-none random pk e = ap (λ (y : Bytes). mixedIn y pk) (sym (nil-of-length random e))
-
-pub mixed-some : (random pk : Bytes) → (length random ≡ 0 → ⊥) → random ≡ mixedIn random pk
-unfolding mixedIn
-mixed-some [] pk h = absurd (h refl)
-mixed-some (x ∷ xs) pk h = refl
-
--- The randomizer of the framed message.
-pub randomizer-made : (r : Row) (f : Family (r .n) (r .m)) (prf mixed message : Bytes) {R x : Bytes} → x ≡ mixed
-    → R ≡ f .PRFmsg prf x ((0 ∷ 0 ∷ []) ++ message) → R ≡ randomizerOf r f prf mixed (frame message) .result
-unfolding randomizerOf frame
-randomizer-made r f prf mixed message e g = g ∙ ap (λ x. f .PRFmsg prf x (0 ∷ 0 ∷ message)) e
-
--- ---- The seal, by the pieces of the secret key
+use Rattle.rows.proofs.SizeLaws.{piece-lent}
 
 -- The front that was lent and written is what it came back as.
 front-is : (m : ℕ) (out xs : Bytes) → length xs ≡ m → take (m - 0) (putMid 0 (m - 0) out xs) ≡ xs
@@ -61,13 +41,6 @@ module _ (r : Row) (f : Family (r .n) (r .m)) (sk pk root message : Bytes) where
       ∙ ap (λ x. sealWith r f x sk pk root (frame message) .result) e
 
 -- ---- The whole seal, on a secret key as bytes
-
--- Piece i of a string, as code lends it.
-piece-lent : (n i from to : ℕ) (x : Bytes) → from ≡ i * n → to ≡ from + n
-    → take (to - from) (drop from x) ≡ piece n i x
-piece-lent n i from to x e g =
-    let long : to - from ≡ n = omega arith in
-    ap₂ (λ (k m : ℕ). take k (drop m x)) long e
 
 module _ (r : Row) (f : Family (r .n) (r .m)) (secret random message : Bytes) where
   -- A seal with the pieces of a key.

@@ -5,19 +5,10 @@ ghost use Rattle.rules.specs.Seal.{frame, mixedIn, randomizerOf, sealWith, seal
 ghost use Rattle.rows.specs.Rows.{ruledRow};
 ghost use Rattle.rows.specs.Ready.{Ready};
 ghost use Rattle.calls.specs.Hashes.{familyFor};
-use calls::Kit;
-use calls::randomizer_in;
 use points::aim;
+use randomizers::randomizer_of_in;
 use rows::Row;
 use writes::written_in;
-
-// The mixed-in bytes (line 2): the randomizer input, or where it is empty the secret key's public seed. Nothing is
-// copied.
-fn mixed_in<'a>(random: &'a [u8], seed: &'a [u8]) -> &'a [u8]
-    ensures { λ r. ⌜ now r ≡ mixedIn (now (random .entry)) (now (seed .entry)) ⌝ }
-{
-    if random.len() == 0 { seed } else { random }
-}
 
 // The seal of a message, by the pieces of the secret key, with room lent for the forest's digits: the randomizer (line
 // 3), where the message points with it (lines 4 to 10), and what is written for that (lines 11 to 17).
@@ -39,10 +30,7 @@ fn seal_over<'a>(
         (now (sk .entry)) (now (seed .entry)) (now (root .entry)) (frame (now (message .entry))) .result ⌝ }
 {
     let n = row.n;
-    let kit = Kit { n: n, m: row.m };
-    let before = [0u8; 2];
-    let mixed = mixed_in(random, seed);
-    randomizer_in(kit, prf, mixed, &before, message, &mut out[0..n]);
+    randomizer_of_in(row, prf, random, seed, message, &mut out[0..n]);
     let pointed = aim(row, &out[0..n], seed, root, message, indices);
     written_in(row, seed, sk, pointed, indices, &mut out[n..]);
 }

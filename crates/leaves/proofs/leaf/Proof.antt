@@ -12,7 +12,7 @@ use Rattle.rules.specs.Calls.{T}
 use Rattle.rules.specs.Chains.{shown}
 use Rattle.rules.proofs.ChainLaws.{leaf-is}
 use Rattle.calls.specs.Hashes.{hashesOf}
-use Rattle.leaves.proofs.Loops.{shown-ends}
+use Rattle.leaves.proofs.EndLaws.{shown-ends}
 use Rattle.rows.proofs.SizeLaws.{size-fits}
 use Rattle.leaves.proofs.leaf.Statement.{statement}
 use Rattle.leaves.proofs.leaf.Tie as tie

@@ -9,39 +9,38 @@ use borrow.Author.Needs.{needs}
 use Rattle.lists.proofs.Filling.{rest-long}
 use Rattle.lists.proofs.Lent.{front-long}
 use Rattle.rules.specs.Places.{Bytes}
-use Rattle.rules.specs.Seal.{mixedIn}
 use Rattle.rows.specs.Rows.{ruledRow}
 use Rattle.rows.proofs.SizeLaws.{seal-size}
 use Rattle.calls.specs.Hashes.{familyFor}
 use Rattle.points.proofs.PointLaws.{in-key}
-use Rattle.seals.proofs.SealLaws.{randomizer-made, seal-made}
+use Rattle.seals.proofs.SealLaws.{seal-made}
 use Rattle.seals.proofs.seal_over.Statement.{statement}
 use Rattle.seals.proofs.seal_over.Tie as tie
 
-abbrev start : tie.After-randomizer-in → tie.Start
-start c = c .before .before .before .before .before .before .before .before .before .before .before .before
+abbrev start : tie.After-randomizer-of-in → tie.Start
+start c = c .before .before .before .before .before .before .before .before .before .before
 
 -- What was written for the randomizer, and the whole after it.
-abbrev part : tie.After-randomizer-in → Bytes
-part c = c .randomizer-in .last .1 .1 .1 .1 .1 .0
+abbrev part : tie.After-randomizer-of-in → Bytes
+part c = c .randomizer-of-in .last .1 .1 .1 .1 .1 .0
 
-abbrev whole : tie.After-randomizer-in → Bytes
+abbrev whole : tie.After-randomizer-of-in → Bytes
 whole c =
     let a = start c .args in
     putMid 0 (a .row .n - 0) (a .out .now) (part c)
 
 -- The part has its length, and the whole keeps its own.
-record Begun (c : tie.After-randomizer-in) : Type 0 where
+record Begun (c : tie.After-randomizer-of-in) : Type 0 where
   part-long : length (part c) ≡ start c .args .row .n
   whole-long : length (whole c) ≡ length (start c .args .out .now)
   room : start c .args .row .n ≤ length (whole c)
 
-begun : (c : tie.After-randomizer-in) → Begun c
+begun : (c : tie.After-randomizer-of-in) → Begun c
 begun c =
     let s = start c in
     let a = s .args in
     let n = a .row .n in
-    let kept = c .randomizer-in .kept .1 .1 .1 .1 .1 .0 in
+    let kept = c .randomizer-of-in .kept .1 .1 .1 .1 .1 .0 in
     let room : n ≤ length (a .out .now) = omega (arith, s .pre .2, seal-size (ruledRow (a .row)) (s .pre .0)) in
     let same = same-len-mid 0 (n - 0) (a .out .now) (part c) kept in
     record {
@@ -50,7 +49,7 @@ begun c =
       room = omega (arith, room, same);
     }
 
-abbrev randomized : tie.After-aim → tie.After-randomizer-in
+abbrev randomized : tie.After-aim → tie.After-randomizer-of-in
 randomized p = p .before .before .before .before .before .before
 
 -- The rest begins within the bytes lent.
@@ -73,14 +72,12 @@ returns c =
     let m = randomized p in
     let a = start m .args in
     let r = ruledRow (a .row) in
-    let made = randomizer-made r (familyFor r) (a .prf .now) (mixedIn (a .random .now) (a .seed .now)) (a .message .now)
-    (m .before .before .before .mixed-in .ensures) (m .randomizer-in .ensures) in
     seal-made r (familyFor r) (a .sk .now) (a .seed .now) (a .root .now) (a .message .now) (a .out .now)
-    (begun m .part-long) made (p .aim .ensures) (w .written-in .ensures)
+    (begun m .part-long) (m .randomizer-of-in .ensures) (p .aim .ensures) (w .written-in .ensures)
 
 pub seal-over-spec : {M : Type 1} → statement M
 seal-over-spec =
     tie.close
-    (tie.spec (λ c κs. search needs) (λ c. search needs) (λ c. search needs) (λ c. search needs) (λ c. search needs)
+    (tie.spec (λ c. search needs) (λ c. search needs) (λ c. search needs)
     (λ c κs. search needs) (λ c. search needs) (λ c. search needs) (λ c. search needs) (λ c κs. search needs)
     rest-start rest-start (λ c. search needs) written-in-requires (λ c. search needs) (λ c. search needs) returns)

@@ -1,8 +1,8 @@
 -- `mixed_in` goes by whether there is a randomizer input.
 -- Assumes nothing.
-use Rattle.seals.proofs.SealLaws.{mixed-none, mixed-some}
-use Rattle.seals.proofs.mixed_in.Statement.{statement}
-use Rattle.seals.proofs.mixed_in.Tie as tie
+use Rattle.randomizers.proofs.RandomizerLaws.{mixed-none, mixed-some}
+use Rattle.randomizers.proofs.mixed_in.Statement.{statement}
+use Rattle.randomizers.proofs.mixed_in.Tie as tie
 
 returns : tie.Need-returns
 returns c = mixed-none (c .before .args .random .now) (c .before .args .seed .now) (c .if1 .taken)

@@ -9,9 +9,9 @@ use Rattle.lists.specs.Below.{Below}
 use Rattle.rules.specs.Chains.{chainDigits}
 use Rattle.rules.proofs.ChecksumLaws.{chainDigits-below}
 use Rattle.calls.specs.Hashes.{hashesOf}
-use Rattle.leaves.proofs.Loops.{from-made, from-calls, put-whole}
-use Rattle.leaves.proofs.leaf_from_over.Statement.{statement}
-use Rattle.leaves.proofs.leaf_from_over.Tie as tie
+use Rattle.leaf_walks.proofs.Loops.{from-made, from-calls, put-whole}
+use Rattle.leaf_walks.proofs.leaf_from_over.Statement.{statement}
+use Rattle.leaf_walks.proofs.leaf_from_over.Tie as tie
 
 walk-in-requires : tie.Need-walk-in-requires
 walk-in-requires c κs =

@@ -14,9 +14,9 @@ use Rattle.rules.specs.Chains.{steps, walk}
 use Rattle.rules.proofs.ChecksumLaws.{steps-le}
 use Rattle.calls.specs.Hashes.{hashesOf}
 use Rattle.chains.proofs.Loops.{chain-calls}
-use Rattle.leaves.proofs.Loops.{walk-turn, walk-end, walk-calls, steps-turn, steps-end}
-use Rattle.leaves.proofs.walk_in.Statement.{statement}
-use Rattle.leaves.proofs.walk_in.Tie as tie
+use Rattle.leaf_walks.proofs.Loops.{walk-turn, walk-end, walk-calls, steps-turn, steps-end}
+use Rattle.leaf_walks.proofs.walk_in.Statement.{statement}
+use Rattle.leaf_walks.proofs.walk_in.Tie as tie
 
 abbrev Inv-loop : tie.InvT-loop
 Inv-loop kit seed spot ds io₀ n i₀ at₀ calls₀ io i at calls =

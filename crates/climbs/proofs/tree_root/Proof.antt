@@ -2,9 +2,9 @@
 -- Assumes nothing.
 use borrow.Author.Needs.{needs}
 use Rattle.calls.specs.Hashes.{hashesOf}
-use Rattle.forest_walks.proofs.ForestLaws.{tree-made}
-use Rattle.forest_walks.proofs.tree_root.Statement.{statement}
-use Rattle.forest_walks.proofs.tree_root.Tie as tie
+use Rattle.climbs.proofs.ClimbLaws.{tree-made}
+use Rattle.climbs.proofs.tree_root.Statement.{statement}
+use Rattle.climbs.proofs.tree_root.Tie as tie
 
 returns : tie.Need-returns
 returns c =

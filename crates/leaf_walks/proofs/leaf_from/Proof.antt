@@ -6,8 +6,8 @@ use native.Mathlib.Omega.{arith}
 use borrow.Author.Needs.{needs}
 use Rattle.lists.proofs.Parts.{zeros-part}
 use Rattle.rows.proofs.SizeLaws.{size-fits}
-use Rattle.leaves.proofs.leaf_from.Statement.{statement}
-use Rattle.leaves.proofs.leaf_from.Tie as tie
+use Rattle.leaf_walks.proofs.leaf_from.Statement.{statement}
+use Rattle.leaf_walks.proofs.leaf_from.Tie as tie
 
 part-ends-end : tie.Need-part-ends-end
 part-ends-end c =

@@ -7,9 +7,9 @@ use Rattle.calls.specs.Hashes.{familyFor}
 use Rattle.rows.proofs.SizeLaws.{tree-room}
 use Rattle.rows.proofs.ShapeLaws.{wood, stack}
 use Rattle.points.specs.At.{at}
-use Rattle.checks.proofs.CheckLaws.{forest-long, rest-long, root-made, root-calls, few-calls}
-use Rattle.checks.proofs.root_at.Statement.{statement}
-use Rattle.checks.proofs.root_at.Tie as tie
+use Rattle.roots.proofs.RootLaws.{forest-long, rest-long, root-made, root-calls, few-calls}
+use Rattle.roots.proofs.root_at.Statement.{statement}
+use Rattle.roots.proofs.root_at.Tie as tie
 
 mul-end : tie.Need-mul-end
 mul-end c =

@@ -12,22 +12,9 @@ use lib.Seq.{drop-cons, take-all, take-at, drop-at}
 use Rattle.parts.specs.Put.{Put}
 use Rattle.rules.specs.Places.{Bytes, chainStep, chainEnds, address}
 use Rattle.rules.specs.Calls.{F, T, of, Hashes}
-use Rattle.rules.specs.Chains.{steps, chainDigits, chain, ends, shown, walk, leafFrom, ownChain}
+use Rattle.rules.specs.Chains.{steps, chainDigits, chain, walk, leafFrom}
 use Rattle.counts.specs.Counts.{is, count}
 use Rattle.counts.proofs.CountLaws.{walk-count, leaf-count}
-use Rattle.rules.proofs.ChainLaws.{shown-cons, ends-suc}
-
-module _ (w : Hashes) (l t p : ℕ) (sk : Bytes) where
-  -- Every chain at position 15 is at its end.
-  pub shown-ends : (c k : ℕ) → shown w l t p sk c (replicate k 15) .result ≡ ends w l t p sk c k .result
-  unfolding shown ends
-  shown-ends c zero = refl
-  shown-ends c (suc k) =
-      shown-cons w l t p sk c 15 (replicate k 15)
-      ∙ ap (λ (x : Bytes). ownChain w l t p sk c 15 ++ x) (shown-ends (suc c) k)
-      ∙ sym (ends-suc w l t p sk c k)
-
--- ---- The walk to the ends
 
 module _ (w : Hashes) (l t p : ℕ) where
   -- A turn of the walk: chain i's end, and then the rest of the values.
