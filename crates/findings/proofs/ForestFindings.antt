@@ -33,7 +33,8 @@ module _ (w : Hashes) (sk : Bytes) (t p a : ℕ) where
     owns-rest j k o c m =
         o c (Memᴰ·append-right (node w (forestTree w t p sk) a j .calls) (Memᴰ·append-left [] m))
 
-    own-leaf-call : (i : ℕ) → Owns Own (forestLeaf w t p sk i) → Own (callOf F (forestNode t p 0 i) (secretOf w sk t p a i))
+    own-leaf-call : (i : ℕ) → Owns Own (forestLeaf w t p sk i)
+        → Own (callOf F (forestNode t p 0 i) (secretOf w sk t p a i))
     unfolding forestLeaf
     own-leaf-call i o = o _ (List·Memᴰ·tail (List·Memᴰ·head refl))
 
@@ -89,7 +90,8 @@ module _ (w : Hashes) (sk : Bytes) (t p a : ℕ) where
         both =
             append-inj
             (climb-sized w (forestNode t p) a 0 i v auth (w .sized F (address (forestNode t p 0 i)) s) .long)
-            (node-sized w (forestTree w t p sk) (leaf-sized w sk t p a) a j .long) (e ∙ roots-suc w sk t p a j (length xs))
+            (node-sized w (forestTree w t p sk) (leaf-sized w sk t p a) a j .long)
+            (e ∙ roots-suc w sk t p a j (length xs))
 
     owns-roots : (k : ℕ) → Owns Own (ownForest w t p a sk k) → Owns Own (roots w t p a sk 0 k)
     unfolding ownForest

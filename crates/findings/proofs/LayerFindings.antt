@@ -1,5 +1,5 @@
--- What leads to the own root of a layer's tree is what the rules write, or shows a collision: the path from the root down,
--- T, then the chains from 0 up.
+-- What leads to the own root of a layer's tree is what the rules write, or shows a collision: the path from the root
+-- down, T, then the chains from 0 up.
 -- Assumes nothing.
 use mathlib.Core.Path.{_≡_, refl, sym, ap, ap₂, _∙_, subst}
 use mathlib.Core.Logic.{_⊎_, inl, inr}

@@ -1,4 +1,5 @@
--- A climb that comes to the key's own node went along its own path, or two H calls collide: looked for from the top down.
+-- A climb that comes to the key's own node went along its own path, or two H calls collide: looked for from the top
+-- down.
 -- Assumes nothing.
 use mathlib.Core.Path.{_≡_, refl, sym, ap, ap₂, _∙_, subst, subst₂}
 use mathlib.Core.Logic.{_⊎_, inl, inr}
@@ -97,7 +98,8 @@ module _ (w : Hashes) (T : Tree) where
 
           split : x ≡ pair w T z (i / 2) → (v ≡ value w T z i) × (take (w .n) auth ≡ value w T z (sibling i))
           split s =
-              join-inj (i % 2) lv (length-take-le (w .n) auth (omega (arith, suc-mul k (w .n)))) (value-long w T leaf-sized z i)
+              join-inj (i % 2) lv (length-take-le (w .n) auth (omega (arith, suc-mul k (w .n))))
+              (value-long w T leaf-sized z i)
               (value-long w T leaf-sized z (sibling i)) (s ∙ sym (children (λ (j : ℕ). value w T z j) i))
 
       pub leaf-climb-shows : (k i top : ℕ) (v auth : Bytes) → i / 2 ^ k ≡ top → Owns Own (node w T k top)

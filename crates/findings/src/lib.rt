@@ -1,1 +1,2 @@
-// Demand 3: what an accepted seal shows (specs/), and that there is no fourth case (proofs/). There is no code on this floor.
+// Demand 3: what an accepted seal shows (specs/), and that there is no fourth case (proofs/). No code is
+// here.

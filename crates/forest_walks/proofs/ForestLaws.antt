@@ -1,5 +1,5 @@
--- The laws of the forest's walk on plain values: what is done and what is left of the trees are the whole, and the forest
--- makes one F call a tree.
+-- The laws of the forest's walk on plain values: what is done and what is left of the trees are the whole, and the
+-- forest makes one F call a tree.
 -- Assumes nothing.
 use mathlib.Core.Path.{_≡_, sym, ap, ap₂, _∙_}
 use mathlib.Core.List.{List, [], _∷_, _++_, append-assoc, append-nil}

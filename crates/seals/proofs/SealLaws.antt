@@ -59,7 +59,8 @@ module _ (r : Row) (f : Family (r .n) (r .m)) (secret random message : Bytes) wh
       e
       ∙ ap₂ (λ s p. sealed s p (take (n + n + n - (n + n)) (drop (n + n) secret))
       (take (length secret - (n + n + n)) (drop (n + n + n) secret)))
-      (piece-lent n 0 0 n secret (omega arith) (omega arith)) (piece-lent n 1 n (n + n) secret (omega arith) (omega arith))
+      (piece-lent n 0 0 n secret (omega arith) (omega arith))
+      (piece-lent n 1 n (n + n) secret (omega arith) (omega arith))
       ∙ ap₂ (λ k t. sealed (piece n 0 secret) (piece n 1 secret) k t)
       (piece-lent n 2 (n + n) (n + n + n) secret (omega arith) (omega arith))
       (piece-lent n 3 (n + n + n) (length secret) secret (omega arith) (omega (arith, long)))
