@@ -3,16 +3,18 @@
 mod common;
 
 use common::paper::{Row, CHAINS, MESSAGE_LIMIT, ROWS};
-use common::{second_keys, second_seal, soak, Random};
+use common::{second_keys, second_seal, soak, thin, Random};
 use skimdral::{check, Answer, Verdict};
 
-/// A set with a key, a message and its seal, and how many checks were compared so far.
+/// A set with a key, a message and its seal, how many damaged cases were drawn so far, how many checks compared, and how
+/// many accepted.
 struct Sealed {
     row: Row,
     public: Vec<u8>,
     message: Vec<u8>,
     seal: Vec<u8>,
     random: Random,
+    drawn: usize,
     checks: usize,
     accepted: usize,
 }
@@ -22,16 +24,23 @@ impl Sealed {
         let (public, secret) = second_keys(row.number, &mut random);
         let message = random.bytes(300);
         let seal = second_seal(row.number, &secret, &message);
-        Sealed { row, public, message, seal, random, checks: 0, accepted: 0 }
+        Sealed { row, public, message, seal, random, drawn: 0, checks: 0, accepted: 0 }
     }
 
     /// Random bytes in the place of key, message and seal.
     fn forged(row: Row, mut random: Random) -> Sealed {
         let [public, message, seal] = [row.public_key, 300, row.seal].map(|length| random.bytes(length));
-        Sealed { row, public, message, seal, random, checks: 0, accepted: 0 }
+        Sealed { row, public, message, seal, random, drawn: 0, checks: 0, accepted: 0 }
     }
 
-    /// Both programs on what is presented.
+    /// Both programs on what is presented, if its turn has come.
+    fn drawn(&mut self, public: &[u8], message: &[u8], seal: &[u8], what: &str) {
+        self.drawn += 1;
+        if self.drawn % thin() == 0 {
+            self.compare(public, message, seal, what);
+        }
+    }
+
     fn compare(&mut self, public: &[u8], message: &[u8], seal: &[u8], what: &str) {
         let set = self.row.number;
         let verdict = second::check(set, message, seal, &[], public).expect("legal lengths");
@@ -42,19 +51,24 @@ impl Sealed {
         self.accepted += usize::from(verdict.accepted);
     }
 
-    fn compare_seal(&mut self, seal: &[u8], what: &str) {
+    fn untouched(&mut self) {
+        let (public, message, seal) = (self.public.clone(), self.message.clone(), self.seal.clone());
+        self.compare(&public, &message, &seal, "untouched");
+    }
+
+    fn drawn_seal(&mut self, seal: &[u8], what: &str) {
         let (public, message) = (self.public.clone(), self.message.clone());
-        self.compare(&public, &message, seal, what);
+        self.drawn(&public, &message, seal, what);
     }
 
-    fn compare_message(&mut self, message: &[u8], what: &str) {
+    fn drawn_message(&mut self, message: &[u8], what: &str) {
         let (public, seal) = (self.public.clone(), self.seal.clone());
-        self.compare(&public, message, &seal, what);
+        self.drawn(&public, message, &seal, what);
     }
 
-    fn compare_key(&mut self, public: &[u8], what: &str) {
+    fn drawn_key(&mut self, public: &[u8], what: &str) {
         let (message, seal) = (self.message.clone(), self.seal.clone());
-        self.compare(public, &message, &seal, what);
+        self.drawn(public, &message, &seal, what);
     }
 
     /// One bit flipped in each n-byte value that a seal is made of.
@@ -62,7 +76,7 @@ impl Sealed {
         for (start, name) in values(&self.row) {
             let mut seal = self.seal.clone();
             self.random.damage(&mut seal[start..start + self.row.n]);
-            self.compare_seal(&seal, &name);
+            self.drawn_seal(&seal, &name);
         }
     }
 
@@ -78,7 +92,7 @@ impl Sealed {
                 2 => seal[value..value + n].fill(0),
                 _ => seal = self.random.bytes(seal.len()),
             }
-            self.compare_seal(&seal, &format!("mixed damage {i}"));
+            self.drawn_seal(&seal, &format!("mixed damage {i}"));
         }
     }
 
@@ -92,10 +106,10 @@ impl Sealed {
                 2 => message.extend(vec![0; 1 + self.random.below(200)]),
                 _ => message = self.random.bytes(i / 4),
             }
-            self.compare_message(&message, &format!("message {i} of {} bytes", message.len()));
+            self.drawn_message(&message, &format!("message {i} of {} bytes", message.len()));
         }
         for length in [0, MESSAGE_LIMIT - 1, MESSAGE_LIMIT] {
-            self.compare_message(&vec![0; length], &format!("message of {length} zeros"));
+            self.drawn_message(&vec![0; length], &format!("message of {length} zeros"));
         }
     }
 
@@ -104,29 +118,35 @@ impl Sealed {
         for bit in 0..8 * self.public.len() {
             let mut public = self.public.clone();
             public[bit / 8] ^= 1 << (bit % 8);
-            self.compare_key(&public, &format!("bit {bit} of the public key"));
+            self.drawn_key(&public, &format!("bit {bit} of the public key"));
         }
         let (seed, root) = self.public.split_at(self.row.n);
         let exchanged = [root, seed].concat();
-        self.compare_key(&exchanged, "halves exchanged");
+        self.drawn_key(&exchanged, "halves exchanged");
         for i in 0..count {
             let public = self.random.bytes(self.public.len());
-            self.compare_key(&public, &format!("other key {i}"));
+            self.drawn_key(&public, &format!("other key {i}"));
         }
     }
 
     /// So many rounds of every value, and so many seals, messages and keys. Of all that is compared, only the untouched
     /// seal is accepted.
     fn all(&mut self, rounds: usize, [seals, messages, keys]: [usize; 3]) {
-        self.compare_seal(&self.seal.clone(), "untouched");
+        self.untouched();
         for _ in 0..rounds * soak() {
             self.every_value();
         }
         self.mixed_seals(seals * soak());
         self.messages(messages * soak());
         self.keys(keys * soak());
-        self.compare_seal(&self.seal.clone(), "untouched at the end");
+        self.untouched();
         assert_eq!(self.accepted, 2, "a damaged seal was accepted by the second program");
+    }
+
+    /// So many cases were drawn, and each compared whose turn came.
+    fn at_least(&self, cases: usize) {
+        assert!(self.drawn >= cases, "{} cases", self.drawn);
+        assert_eq!(self.checks, self.drawn / thin() + 2);
     }
 }
 
@@ -150,14 +170,14 @@ fn values(row: &Row) -> Vec<(usize, String)> {
 fn set_1() {
     let mut sealed = Sealed::new(ROWS[0], Random::of_test(11));
     sealed.all(6, [200, 400, 100]);
-    assert!(sealed.checks >= 3_600, "{} checks", sealed.checks);
+    sealed.at_least(3_600);
 }
 
 #[test]
 fn set_2() {
     let mut sealed = Sealed::new(ROWS[1], Random::of_test(12));
     sealed.all(1, [80, 120, 20]);
-    assert!(sealed.checks >= 1_400, "{} checks", sealed.checks);
+    sealed.at_least(1_400);
 }
 
 /// The F calls tell digests apart, so these compare the digest at every message length of the first blocks.
@@ -167,7 +187,7 @@ fn every_short_length() {
         let mut forged = Sealed::forged(row, Random::of_test(number));
         for length in lengths {
             let message = forged.random.bytes(length);
-            forged.compare_message(&message, &format!("message of {length} bytes"));
+            forged.drawn_message(&message, &format!("message of {length} bytes"));
         }
     }
 }

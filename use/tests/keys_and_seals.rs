@@ -2,7 +2,7 @@
 
 mod common;
 
-use common::{soak, Random};
+use common::{soak, thin, Random};
 use skimdral::{check, make_keys, seal, Answer, Keys, Set, Verdict, MESSAGE_LIMIT};
 
 /// Framed, a message has two bytes more. R's hash has 32 bytes before it and the digest's has 48, so these lengths lie
@@ -43,7 +43,7 @@ fn random_keys(set: u32, random: &mut Random) -> Keys {
 fn seals_of(set: u32, lengths: &[usize], random: &mut Random) {
     for _ in 0..soak() {
         let keys = random_keys(set, random);
-        for (i, &length) in lengths.iter().enumerate() {
+        for (i, &length) in lengths.iter().step_by(thin()).enumerate() {
             let message = random.bytes(length);
             let hedge = random.bytes(if i % 2 == 0 { 0 } else { 16 });
             compare(set, &keys, &message, &hedge);
@@ -81,7 +81,7 @@ fn zeros_and_the_public_seed_as_randomizer_input() {
 fn key_pairs() {
     let random = &mut Random::of_test(4);
     for (set, count) in [(1, 3), (2, 30)] {
-        for _ in 0..count * soak() {
+        for _ in 0..(count * soak()).div_ceil(thin()) {
             random_keys(set, random);
         }
         for same in [[0; 16], [0xff; 16]] {

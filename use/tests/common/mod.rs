@@ -53,6 +53,15 @@ pub fn soak() -> usize {
     }
 }
 
+/// Of how many drawn cases one is compared: of 1, and of 10 where an emulator runs the library. Stored cases and
+/// refusals are all compared there too.
+pub fn thin() -> usize {
+    match std::env::var_os("SKIMDRAL_EMULATOR") {
+        Some(_) => 10,
+        None => 1,
+    }
+}
+
 /// A key pair of the set by the second program: (public, secret).
 pub fn second_keys(set: u32, random: &mut Random) -> (Vec<u8>, Vec<u8>) {
     let seeds = [random.bytes(16), random.bytes(16), random.bytes(16)];
