@@ -33,12 +33,9 @@ fn check_answer(row: Row, public: usize, message: usize, seal: usize) -> Answer
     let key = public == row.public;
     let room = seal == row.seal;
     let fits = message <= 65536;
-    let late = unless(
-        fits,
-        Answer::MessageLength,
-        unless(room, Answer::SealLength, Answer::Done),
-    );
-    unless(key, Answer::InputLength, late)
+    let four = unless(room, Answer::SealLength, Answer::Done);
+    let three = unless(fits, Answer::MessageLength, four);
+    unless(key, Answer::InputLength, three)
 }
 
 // The verdict on the root that a walk came to, of n bytes, beside the key's own.

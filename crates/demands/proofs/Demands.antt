@@ -28,13 +28,13 @@ use Rattle.rules.proofs.SetLaws.{rowOf-legal}
 use Rattle.calls.specs.Hashes.{familyFor}
 use Rattle.answers.specs.Answers.{number}
 use Rattle.answers.specs.Tests.{Under}
-use Rattle.answers.specs.Lines.{Line, first}
+use Rattle.answers.specs.Lines.{Line, first, NoneApplies}
 use Rattle.making.specs.Keys.{keysLines, KeysMade}
 use Rattle.sealing.specs.Seals.{sealLines, Sealed}
 use Rattle.checking.specs.Checks.{checkLines, checkAnswer, checkCalls, Checked}
 use Rattle.part_reading.specs.Parts.{partLines, partAnswer, partGiven}
 use Rattle.digit_reading.specs.Digits.{digitsLines, DigitsRead}
-use Rattle.demands.specs.Table.{Given, Applies, applies, noneBefore, ordered, Unlisted, SeedsLong, KeysLong, SealInputsLong, Fitting}
+use Rattle.demands.specs.Table.{Given, Applies, applies, noneBefore, ordered, Unlisted, Fitting}
 use Rattle.answers.specs.declared.Answer.{Answer}
 use Rattle.checking.specs.declared.Verdict.{Verdict}
 use Rattle.answers.proofs.TestLaws.{at-row}
@@ -66,24 +66,9 @@ module _ (set : ℕ) (skSeed skPrf pkSeed public secret : Bytes) (a : Answer) (p
   unfolding ordered noneBefore
   keys-answer = answer-given keys-lines refl (number a) (made .answered)
 
-  -- The keys are made exactly when the set is known and each length is the set's.
-  pub keys-done : (number a ≡ 0)
-      ↔ Under (rowOf set) (λ r. SeedsLong skSeed skPrf pkSeed r × KeysLong public secret r)
-  keys-done =
-      Iff·trans (done-when keys-lines refl (number a) (made .answered)) (
-        λ h. found (rowOf set) _ (h .0) (λ r e.
-            ((h .1 .0 r e, (h .1 .1 .0 r e, h .1 .1 .1 .0 r e)), (h .1 .1 .1 .1 .0 r e, h .1 .1 .1 .1 .1 .0 r e))),
-        λ u. let at = at-row (rowOf set) _ in (
-          (u .known, u .found),
-          (
-            λ r e. at r e u .0 .0,
-            (
-              λ r e. at r e u .0 .1 .0,
-              (λ r e. at r e u .0 .1 .1, (λ r e. at r e u .1 .0, (λ r e. at r e u .1 .1, tt))),
-            ),
-          ),
-        ),
-      )
+  -- The keys are made exactly when no line applies.
+  pub keys-done : (number a ≡ 0) ↔ NoneApplies keys-lines
+  keys-done = done-when keys-lines refl (number a) (made .answered)
 
   -- "A refusal changes no byte of any buffer."
   pub keys-kept : number a ≢ 0 → (public-after ≡ public) × (secret-after ≡ secret)
@@ -104,18 +89,9 @@ module _ (set : ℕ) (secret message random out : Bytes) (a : Answer) (out-after
   unfolding ordered noneBefore
   seal-answer = answer-given seal-lines refl (number a) (sealed .answered)
 
-  -- A seal is written exactly when the set is known, each length is the set's and the message is within the limit.
-  pub seal-done : (number a ≡ 0) ↔ Under (rowOf set) (λ r.
-      SealInputsLong secret random r × (Fitting message × (length out ≡ r .sealBytes)))
-  seal-done =
-      Iff·trans (done-when seal-lines refl (number a) (sealed .answered)) (
-        λ h. found (rowOf set) _ (h .0) (λ r e.
-            ((h .1 .0 r e, h .1 .1 .0 r e), (h .1 .1 .1 .0, h .1 .1 .1 .1 .0 r e))),
-        λ u. let at = at-row (rowOf set) _ in (
-          (u .known, u .found),
-          (λ r e. at r e u .0 .0, (λ r e. at r e u .0 .1, (u .holds .1 .0, (λ r e. at r e u .1 .1, tt)))),
-        ),
-      )
+  -- A seal is written exactly when no line applies.
+  pub seal-done : (number a ≡ 0) ↔ NoneApplies seal-lines
+  seal-done = done-when seal-lines refl (number a) (sealed .answered)
 
   -- "A refusal changes no byte of any buffer."
   pub seal-kept : number a ≢ 0 → out-after ≡ out
@@ -140,14 +116,9 @@ module _ (set : ℕ) (seal : Bytes) (k : ℕ) (a : Answer) (answered : number a 
   unfolding ordered noneBefore
   part-answer = answer-given (partLines (rowOf set) (length seal) k) refl (number a) answered
 
-  -- A part is handed out exactly when the set is known, the seal has its length and the part is one of 0 to d + 1.
-  pub part-done : (number a ≡ 0) ↔ Under (rowOf set) (λ r. (length seal ≡ r .sealBytes) × (k ≤ r .d + 1))
-  part-done =
-      Iff·trans (done-when (partLines (rowOf set) (length seal) k) refl (number a) answered) (
-        λ h. found (rowOf set) _ (h .0) (λ r e. (h .1 .0 r e, h .1 .1 .0 r e)),
-        λ u. let at = at-row (rowOf set) _ in
-            ((u .known, u .found), (λ r e. at r e u .0, (λ r e. at r e u .1, tt))),
-      )
+  -- A part is handed out exactly when no line applies.
+  pub part-done : (number a ≡ 0) ↔ NoneApplies (partLines (rowOf set) (length seal) k)
+  part-done = done-when (partLines (rowOf set) (length seal) k) refl (number a) answered
 
   -- "Part reading returns an empty part with every refusal"
   pub part-empty : (given-part : Bytes) → given-part ≡ partGiven (rowOf set) seal k → number a ≢ 0 → given-part ≡ []
@@ -165,16 +136,9 @@ module _ (set : ℕ) (value : Bytes) (digits : List ℕ) (a : Answer) (digits-af
   digits-answer =
       answer-given (digitsLines (rowOf set) (length value) (length digits)) refl (number a) (read .answered)
 
-  -- Digits are written exactly when the set is known and each length is the set's.
-  pub digits-done : (number a ≡ 0) ↔ Under (rowOf set) (λ r.
-      (length value ≡ r .n) × (length digits ≡ chains (r .n)))
-  digits-done =
-      Iff·trans
-      (done-when (digitsLines (rowOf set) (length value) (length digits)) refl (number a) (read .answered)) (
-        λ h. found (rowOf set) _ (h .0) (λ r e. (h .1 .0 r e, h .1 .1 .0 r e)),
-        λ u. let at = at-row (rowOf set) _ in
-            ((u .known, u .found), (λ r e. at r e u .0, (λ r e. at r e u .1, tt))),
-      )
+  -- Digits are written exactly when no line applies.
+  pub digits-done : (number a ≡ 0) ↔ NoneApplies (digitsLines (rowOf set) (length value) (length digits))
+  digits-done = done-when (digitsLines (rowOf set) (length value) (length digits)) refl (number a) (read .answered)
 
   -- "A refusal changes no byte of any buffer."
   pub digits-kept : number a ≢ 0 → digits-after ≡ digits
@@ -190,37 +154,33 @@ pub keys-are : (set : ℕ) (skSeed skPrf pkSeed public secret : Bytes) (a : Answ
     (public-after ≡ publicKey r (familyFor r) skSeed pkSeed)
     × (secret-after ≡ secretKey r (familyFor r) skSeed skPrf pkSeed))
 keys-are set skSeed skPrf pkSeed public secret a public-after secret-after made done =
-    mapped (rowOf set) _ _
-    (λ r e legal. (
+    found (rowOf set) _ (keys-done set skSeed skPrf pkSeed public secret a public-after secret-after made .0 done .0)
+    (λ r e. (
       made .public-is ∙ settled-made _ (rowOf set) _ public r (sym (made .answered) ∙ done) e,
       made .secret-is ∙ settled-made _ (rowOf set) _ secret r (sym (made .answered) ∙ done) e,
     ))
-    (keys-done set skSeed skPrf pkSeed public secret a public-after secret-after made .0 done)
 
 pub seal-is : (set : ℕ) (secret message random out : Bytes) (a : Answer) (seal : Bytes)
     → Sealed (rowOf set) secret message random out a seal → number a ≡ 0
     → Under (rowOf set) (λ r. seal ≡ sealOf r (familyFor r) secret random (frame message) .result)
 seal-is set secret message random out a seal sealed done =
-    mapped (rowOf set) _ _
-    (λ r e legal. sealed .out-is ∙ settled-made _ (rowOf set) _ out r (sym (sealed .answered) ∙ done) e)
-    (seal-done set secret message random out a seal sealed .0 done)
+    found (rowOf set) _ (seal-done set secret message random out a seal sealed .0 done .0)
+    (λ r e. sealed .out-is ∙ settled-made _ (rowOf set) _ out r (sym (sealed .answered) ∙ done) e)
 
 -- The two readings: the part as it lies in the seal, and the digits with their checksum.
 pub part-is : (set : ℕ) (seal : Bytes) (k : ℕ) (a : Answer) (given-part : Bytes)
     → number a ≡ partAnswer (rowOf set) seal k → given-part ≡ partGiven (rowOf set) seal k → number a ≡ 0
     → Under (rowOf set) (λ r. given-part ≡ part r k seal)
 part-is set seal k a given-part answered read done =
-    mapped (rowOf set) _ _
-    (λ r e legal. read ∙ settled-made _ (rowOf set) _ [] r (sym answered ∙ done) e)
-    (part-done set seal k a answered .0 done)
+    found (rowOf set) _ (part-done set seal k a answered .0 done .0)
+    (λ r e. read ∙ settled-made _ (rowOf set) _ [] r (sym answered ∙ done) e)
 
 pub digits-are : (set : ℕ) (value : Bytes) (digits : List ℕ) (a : Answer) (digits-after : List ℕ)
     → DigitsRead (rowOf set) value digits a digits-after → number a ≡ 0
     → Under (rowOf set) (λ r. digits-after ≡ chainDigits (r .n) value)
 digits-are set value digits a digits-after read done =
-    mapped (rowOf set) _ _
-    (λ r e legal. read .digits-are ∙ settled-made _ (rowOf set) _ digits r (sym (read .answered) ∙ done) e)
-    (digits-done set value digits a digits-after read .0 done)
+    found (rowOf set) _ (digits-done set value digits a digits-after read .0 done .0)
+    (λ r e. read .digits-are ∙ settled-made _ (rowOf set) _ digits r (sym (read .answered) ∙ done) e)
 
 -- "A check accepts exactly when set and lengths are legal and the root recomputed by FIPS 205 equals the key's."
 pub accepted-exactly : (set : ℕ) (public message seal : Bytes) (v : Verdict)
@@ -254,11 +214,18 @@ module _ (set : ℕ) (skSeed skPrf pkSeed public-was secret-was : Bytes) (a : An
   keys : Under (rowOf set) Pair
   keys = keys-are set skSeed skPrf pkSeed public-was secret-was a public secret made done
 
-  -- The seeds that a key pair was made from have the set's length.
-  seeds-long : (r : Row) → rowOf set ≡ some r → SeedsLong skSeed skPrf pkSeed r
-  seeds-long r e =
-      at-row (rowOf set) (λ q. SeedsLong skSeed skPrf pkSeed q × KeysLong public-was secret-was q) r e
-      (keys-done set skSeed skPrf pkSeed public-was secret-was a public secret made .0 done) .0
+  -- No line of key making applied, so the seeds have the set's length.
+  none-applied : NoneApplies (keys-lines set skSeed skPrf pkSeed public-was secret-was a public secret made)
+  none-applied = keys-done set skSeed skPrf pkSeed public-was secret-was a public secret made .0 done
+
+  sk-long : (r : Row) → rowOf set ≡ some r → length skSeed ≡ r .n
+  sk-long = none-applied .1 .0
+
+  prf-long : (r : Row) → rowOf set ≡ some r → length skPrf ≡ r .n
+  prf-long = none-applied .1 .1 .0
+
+  pk-long : (r : Row) → rowOf set ≡ some r → length pkSeed ≡ r .n
+  pk-long = none-applied .1 .1 .1 .0
 
   -- "Every seal made with a secret key from our key making for the same set is accepted, for that message, under its
   -- public key."
@@ -270,12 +237,12 @@ module _ (set : ℕ) (skSeed skPrf pkSeed public-was secret-was : Bytes) (a : An
       (mapped (rowOf set) _ _ (λ r e ks. (long r e ks, (fits, accepted r e ks))) keys)
     where
       fits : Fitting message
-      fits = seal-done set secret message random out b seal sealed .0 sealing-done .holds .1 .0
+      fits = seal-done set secret message random out b seal sealed .0 sealing-done .1 .1 .1 .0
 
       long : (r : Row) → rowOf set ≡ some r → Pair r → length public ≡ r .publicBytes
       long r e ks =
           ap length (ks .0)
-          ∙ publicKey-long r (familyFor r) skSeed pkSeed (seeds-long r e .1 .1) (rowOf-legal set r e .1)
+          ∙ publicKey-long r (familyFor r) skSeed pkSeed (pk-long r e) (rowOf-legal set r e .1)
 
       accepted : (r : Row) → rowOf set ≡ some r → Pair r → Accepted r (familyFor r) public (frame message) seal
       accepted r e ks =
@@ -284,8 +251,8 @@ module _ (set : ℕ) (skSeed skPrf pkSeed public-was secret-was : Bytes) (a : An
             at-row (rowOf set) _ r e (seal-is set secret message random out b seal sealed sealing-done),
             ks .1,
           )
-          (accepts r (familyFor r) (rowOf-legal set r e .1) skSeed skPrf pkSeed (seeds-long r e .0)
-          (seeds-long r e .1 .0) (seeds-long r e .1 .1) random (frame message))
+          (accepts r (familyFor r) (rowOf-legal set r e .1) skSeed skPrf pkSeed (sk-long r e)
+          (prf-long r e) (pk-long r e) random (frame message))
 
   -- ==== Demand 3
 
@@ -298,7 +265,7 @@ module _ (set : ℕ) (skSeed skPrf pkSeed public-was secret-was : Bytes) (a : An
       mapped (rowOf set) _ _
       (λ r e q.
       one-of-three r (rowOf-legal set r e .1) (familyFor r) skSeed pkSeed (frame message) seal
-      (seeds-long r e .1 .1)
+      (pk-long r e)
       (subst (λ (x : Bytes). Accepted r (familyFor r) x (frame message) seal) (at-row (rowOf set) _ r e keys .0)
       (q .1 .1)))
       (accepted-exactly set public message seal v checked .0 accepted)

@@ -1,4 +1,4 @@
--- The table "When the desk says no" in propositions: which number is given, and what a set asks.
+-- The table "When the desk says no" in propositions: which number is given, and when.
 -- Assumes nothing.
 use mathlib.Core.Path.{_≡_}
 use mathlib.Core.Logic.{_≢_, _⊎_}
@@ -55,18 +55,6 @@ ordered (l ∷ ls) = noneBefore (l .number) ls && ordered ls
 unfoldable pub Unlisted : (set : ℕ) → List Row → Type 0
 Unlisted set [] = Unit {0}
 Unlisted set (r ∷ rs) = (set ≢ r .number) × Unlisted set rs
-
--- ---- What a set asks of the lengths
-
-abbrev pub SeedsLong : (skSeed skPrf pkSeed : Bytes) → Row → Type 0
-SeedsLong skSeed skPrf pkSeed r = (length skSeed ≡ r .n) × ((length skPrf ≡ r .n) × (length pkSeed ≡ r .n))
-
-abbrev pub KeysLong : (public secret : Bytes) → Row → Type 0
-KeysLong public secret r = (length public ≡ r .publicBytes) × (length secret ≡ r .secretBytes)
-
--- A randomizer input has no bytes, or n.
-abbrev pub SealInputsLong : (secret random : Bytes) → Row → Type 0
-SealInputsLong secret random r = (length secret ≡ r .secretBytes) × ((length random ≡ 0) ⊎ (length random ≡ r .n))
 
 -- A message within the limit.
 abbrev pub Fitting : (message : Bytes) → Type 0

@@ -21,11 +21,8 @@ fn digits_answer(row: Row, value: usize, digits: usize) -> Answer
 {
     let n = row.n;
     let room = digits == 2 * n + 3;
-    unless(
-        value == n,
-        Answer::InputLength,
-        unless(room, Answer::SealLength, Answer::Done),
-    )
+    let four = unless(room, Answer::SealLength, Answer::Done);
+    unless(value == n, Answer::InputLength, four)
 }
 
 // Under a known set.

@@ -23,10 +23,10 @@ fn keys_answer(row: Row, sk: usize, prf: usize, pk: usize, public: usize, secret
     let public_room = public == row.public;
     let secret_room = secret == row.secret;
     let last = unless(secret_room, Answer::SealLength, Answer::Done);
-    let rooms = unless(public_room, Answer::SealLength, last);
-    let public_seed = unless(pk == n, Answer::InputLength, rooms);
-    let prf_seed = unless(prf == n, Answer::InputLength, public_seed);
-    unless(sk == n, Answer::InputLength, prf_seed)
+    let four = unless(public_room, Answer::SealLength, last);
+    let third = unless(pk == n, Answer::InputLength, four);
+    let second = unless(prf == n, Answer::InputLength, third);
+    unless(sk == n, Answer::InputLength, second)
 }
 
 // Under a known set.

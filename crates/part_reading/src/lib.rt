@@ -71,11 +71,8 @@ fn part_answer_under(row: Row, seal: &[u8], number: u32) -> Answer
 {
     let whole = seal.len() == row.seal;
     let there = number <= row.d + 1;
-    unless(
-        whole,
-        Answer::SealLength,
-        unless(there, Answer::UnknownPart, Answer::Done),
-    )
+    let six = unless(there, Answer::UnknownPart, Answer::Done);
+    unless(whole, Answer::SealLength, six)
 }
 
 // The part under a known set.

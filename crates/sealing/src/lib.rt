@@ -24,16 +24,10 @@ fn seal_answer(row: Row, secret: usize, message: usize, random: usize, out: usiz
     let room = out == row.seal;
     let input = either(random == 0, random == row.n);
     let fits = message <= 65536;
-    let late = unless(
-        fits,
-        Answer::MessageLength,
-        unless(room, Answer::SealLength, Answer::Done),
-    );
-    unless(
-        key,
-        Answer::InputLength,
-        unless(input, Answer::InputLength, late),
-    )
+    let four = unless(room, Answer::SealLength, Answer::Done);
+    let three = unless(fits, Answer::MessageLength, four);
+    let two = unless(input, Answer::InputLength, three);
+    unless(key, Answer::InputLength, two)
 }
 
 // Under a known set.
