@@ -1,7 +1,8 @@
--- What a buffer holds by the answer, and that an answer is known by its number.
+-- What a buffer holds by the answer, what a line says by its test, and that an answer is known by its number.
 -- Assumes nothing.
 use mathlib.Core.Path.{_≡_, refl, sym, ap, ap₂, _∙_}
 use mathlib.Core.Logic.{_≢_}
+use mathlib.Core.Bool.{Bool, true, false, cond}
 use mathlib.Core.Option.{Option, some}
 use Prim.Native.Nat.{ℕ, zero, suc}
 use Rattle.rules.specs.Sets.{Row}
@@ -20,6 +21,13 @@ pub settled-kept : {A : Type 0} (n : ℕ) (row : Option Row) (made : Row → A) 
 unfolding settled
 settled-kept zero row made was refused = absurd (refused refl)
 settled-kept (suc n) row made was refused = refl
+
+-- By the test that passed or failed.
+pub later-told : (p : Bool) (x y : ℕ) → p ≡ true → x ≡ cond p x y
+later-told p x y e = rw e
+
+pub refusal-told : (p : Bool) (x y : ℕ) → p ≡ false → y ≡ cond p x y
+refusal-told p x y e = rw e
 
 -- The answer of a number.
 answerOf : ℕ → Answer

@@ -1,2 +1,4 @@
+pub mod StringLaws
 pub mod TestLaws
+pub mod LineLaws
 pub mod AnswerLaws

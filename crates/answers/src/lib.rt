@@ -1,7 +1,8 @@
 // The answers, and the tests that come before any work.
 ghost use mathlib.Core.Path.{_≡_};
-ghost use mathlib.Core.Bool.{_&&_, _||_};
-ghost use Rattle.answers.specs.Answers.{number, smallest, tested, messageFits, same};
+ghost use mathlib.Core.Bool.{cond, _||_};
+ghost use Rattle.answers.specs.Answers.{number};
+ghost use Rattle.answers.specs.Tests.{same};
 
 // The paper's answers 0 to 6.
 pub enum Answer {
@@ -29,43 +30,18 @@ pub fn number_of(answer: Answer) -> u32
     }
 }
 
-// The answer of a known set's tests: the first that fails decides.
-pub fn first_failed(lengths: bool, message: bool, room: bool, part: bool) -> Answer
-    ensures { λ r. ⌜ number r ≡ smallest (tested lengths message room part) ⌝ }
+// A line: the refusal where its test fails, and else what the later lines say.
+pub fn unless(passed: bool, refusal: Answer, later: Answer) -> Answer
+    ensures { λ r. ⌜ number r ≡ cond passed (number later) (number refusal) ⌝ }
 {
-    if !lengths {
-        return Answer::InputLength;
-    }
-    if !message {
-        return Answer::MessageLength;
-    }
-    if !room {
-        return Answer::SealLength;
-    }
-    if !part {
-        return Answer::UnknownPart;
-    }
-    Answer::Done
+    if passed { later } else { refusal }
 }
 
-// Both tests, and either.
-pub fn both(a: bool, b: bool) -> bool
-    ensures { λ r. ⌜ r ≡ (a && b) ⌝ }
-{
-    if a { b } else { false }
-}
-
+// One of two tests passes.
 pub fn either(a: bool, b: bool) -> bool
     ensures { λ r. ⌜ r ≡ (a || b) ⌝ }
 {
     if a { true } else { b }
-}
-
-// Whether a message is short enough.
-pub fn message_fits(bytes: usize) -> bool
-    ensures { λ r. ⌜ r ≡ messageFits bytes ⌝ }
-{
-    bytes <= 65536
 }
 
 // Whether two strings are the same.

@@ -1,58 +1,50 @@
--- What checking promises, from what its tests and its walk gave, on plain values.
+-- What checking promises, from what its lines and its walk gave, on plain values.
 -- Assumes nothing.
-use mathlib.Core.Path.{_≡_, refl, sym, ap, _∙_}
-use mathlib.Core.Bool.{Bool, true, false, not, cond, _||_}
+use mathlib.Core.Path.{_≡_, refl, sym, ap, ap₂, _∙_}
+use mathlib.Core.Logic.{_≢_, _⊎_, inl, inr}
+use mathlib.Core.Bool.{Bool, true, false, cond, _||_}
+use mathlib.Core.List.{List, [], _∷_}
 use mathlib.Core.Option.{Option, some, none}
 use Prim.Native.Nat.{ℕ}
 use native.Mathlib.Nat.{suc-ne-zero}
 use lib.Dec.{eqb}
 use lib.ListN.{length}
-use borrow.Author.Tests.{eqb-true}
 use Rattle.rules.specs.Places.{Bytes}
 use Rattle.rules.specs.Calls.{F, of}
 use Rattle.rules.specs.Sets.{Row}
 use Rattle.rules.specs.Keys.{piece}
 use Rattle.counts.specs.Counts.{count}
-use Rattle.answers.specs.Answers.{number, Refusals, smallest, tested, messageFits, same}
-use Rattle.checking.specs.Checks.{Checked, recomputed}
+use Rattle.answers.specs.Answers.{number}
+use Rattle.answers.specs.Tests.{same}
+use Rattle.answers.specs.Lines.{Line, first}
+use Rattle.checking.specs.Checks.{lengthLines, rootLine, recomputed, Checked}
 use Rattle.answers.specs.declared.Answer.{Answer}
-use Rattle.answers.specs.declared.Answer.the-variants.{Done, UnknownSet, RootDiffers}
+use Rattle.answers.specs.declared.Answer.the-variants.{UnknownSet}
 use Rattle.checking.specs.declared.Verdict.{Verdict}
-use Rattle.answers.proofs.TestLaws.{passed}
+use Rattle.answers.proofs.TestLaws.{eqb-tells, untold}
+use Rattle.answers.proofs.LineLaws.{not-given, given-early, given-late, zero-given}
 
--- ---- The tests of a check, before its walk and after it
-
-abbrev rooted : (lengths message room root : Bool) → Refusals
-rooted a b c s = record {
-  unknown-set = false;
-  wrong-length = not a;
-  long-message = not b;
-  wrong-room = not c;
-  other-root = not s;
-  no-part = false;
-}
+-- ---- The F calls by the answer
 
 abbrev callsAt : (answer n : ℕ) → ℕ
 callsAt x n = cond (eqb x 0 || eqb x 5) n 0
 
--- Refused before the walk, whatever the walk would have shown.
-pub refused-walk : (a b c s : Bool) (n : ℕ) → (smallest (tested a b c true) ≡ 0 → ⊥)
-    → (smallest (tested a b c true) ≡ smallest (rooted a b c s)) × (0 ≡ callsAt (smallest (rooted a b c s)) n)
-unfolding smallest
-refused-walk false b c s n h = (refl, refl)
-refused-walk true false c s n h = (refl, refl)
-refused-walk true true false s n h = (refl, refl)
-refused-walk true true true s n h = absurd (h refl)
+-- With answers 0 and 5 they are those of the walk, and with every other one none.
+pub walked-calls : (x n : ℕ) → (x ≡ 0) ⊎ (x ≡ 5) → callsAt x n ≡ n
+walked-calls x n (inl z) = ap (λ (y : ℕ). callsAt y n) z
+walked-calls x n (inr z) = ap (λ (y : ℕ). callsAt y n) z
 
--- After the walk the root decides.
-pub walked : (a b c s : Bool) (n : ℕ) → smallest (tested a b c true) ≡ 0
-    → (cond s 0 5 ≡ smallest (rooted a b c s)) × (n ≡ callsAt (smallest (rooted a b c s)) n)
-unfolding smallest
-walked false b c s n h = absurd (suc-ne-zero 1 h)
-walked true false c s n h = absurd (suc-ne-zero 2 h)
-walked true true false s n h = absurd (suc-ne-zero 3 h)
-walked true true true true n h = (refl, refl)
-walked true true true false n h = (refl, refl)
+pub no-calls : (x n : ℕ) → x ≢ 0 → x ≢ 5 → 0 ≡ callsAt x n
+no-calls x n h g =
+    ap₂ (λ (a b : Bool). cond (a || b) n 0) (sym (other x 0 h)) (sym (other x 5 g))
+  where
+    other : (x k : ℕ) → x ≢ k → eqb x k ≡ false
+    other x k h = untold (eqb x k) (x ≡ k) (eqb-tells x k) h
+
+-- By the root, which decides last.
+by-root : (s : Bool) (n : ℕ) → n ≡ callsAt (cond s 0 5) n
+by-root true n = refl
+by-root false n = refl
 
 -- ---- What checking promises
 
@@ -64,21 +56,12 @@ module _ {row other : Option Row} (e : row ≡ other) where
 
 module _ (public message seal : Bytes) where
   pub check-unknown : Checked none public message seal (record { answer = UnknownSet; calls = 0 })
-  unfolding smallest
+  unfolding first
   check-unknown = record { answered = refl; counted = refl }
 
   module _ (r : Row) where
-    abbrev lengths : Bool
-    lengths = eqb (length public) (r .publicBytes)
-
-    abbrev fits : Bool
-    fits = messageFits (length message)
-
-    abbrev room : Bool
-    room = eqb (length seal) (r .sealBytes)
-
-    abbrev first : ℕ
-    first = smallest (tested lengths fits room true)
+    abbrev early : List Line
+    early = lengthLines (some r) (length public) (length message) (length seal)
 
     abbrev sameRoot : Bool
     sameRoot = same (recomputed (some r) public message seal r .result) (piece (r .n) 1 public)
@@ -86,25 +69,28 @@ module _ (public message seal : Bytes) where
     abbrev fCalls : ℕ
     fCalls = count (of F) (recomputed (some r) public message seal r .calls)
 
-    pub check-refused : {answer : Answer} → number answer ≡ first → (first ≡ 0 → ⊥)
+    pub check-refused : {answer : Answer} → number answer ≡ first early → first early ≢ 0
         → Checked (some r) public message seal (record { answer = answer; calls = 0 })
     check-refused e h =
-        let w = refused-walk lengths fits room sameRoot fCalls h in
-        record { answered = e ∙ w .0; counted = w .1 }
+        let given = given-early early (rootLine (some r) public message seal ∷ []) h in
+        record {
+          answered = e ∙ sym given;
+          counted = no-calls (first early) fCalls h (not-given 5 early refl (suc-ne-zero 4))
+              ∙ ap (λ (x : ℕ). callsAt x fCalls) (sym given);
+        }
 
-    pub check-done : {calls : ℕ} → first ≡ 0 → sameRoot ≡ true → calls ≡ fCalls
-        → Checked (some r) public message seal (record { answer = Done; calls = calls })
-    check-done z e f =
-        let w = walked lengths fits room sameRoot fCalls z in
-        record { answered = ap (λ (b : Bool). cond b 0 5) (sym e) ∙ w .0; counted = f ∙ w .1 }
+    -- Where no line before the walk applies, the root decides.
+    pub check-walked : {v : Verdict} → first early ≡ 0 → number (v .answer) ≡ cond sameRoot 0 5 → v .calls ≡ fCalls
+        → Checked (some r) public message seal v
+    unfolding first
+    check-walked z e f =
+        let given = given-late early (rootLine (some r) public message seal ∷ []) refl z in
+        record {
+          answered = e ∙ sym given;
+          counted = f ∙ by-root sameRoot fCalls ∙ ap (λ (x : ℕ). callsAt x fCalls) (sym given);
+        }
 
-    pub check-other : {calls : ℕ} → first ≡ 0 → sameRoot ≡ false → calls ≡ fCalls
-        → Checked (some r) public message seal (record { answer = RootDiffers; calls = calls })
-    check-other z e f =
-        let w = walked lengths fits room sameRoot fCalls z in
-        record { answered = ap (λ (b : Bool). cond b 0 5) (sym e) ∙ w .0; counted = f ∙ w .1 }
-
-    pub check-long : first ≡ 0 → (length public ≡ r .publicBytes) × (length seal ≡ r .sealBytes)
+    pub check-long : first early ≡ 0 → (length public ≡ r .publicBytes) × (length seal ≡ r .sealBytes)
     check-long z =
-        let t = passed lengths fits room true z in
-        (eqb-true _ _ (t .lengths-pass), eqb-true _ _ (t .room-passes))
+        let none-applies = zero-given early refl .0 z in
+        (none-applies .1 .0 r refl, none-applies .1 .1 .1 .0 r refl)

@@ -1,7 +1,8 @@
--- Checking: its answer, and how many F calls it made.
+-- Checking: its lines, its answer, and how many F calls it made.
 -- Assumes nothing.
 use mathlib.Core.Path.{_≡_}
-use mathlib.Core.Bool.{false, not, cond, _||_}
+use mathlib.Core.Bool.{cond, _||_}
+use mathlib.Core.List.{List, [], _∷_, _++_}
 use mathlib.Core.Option.{Option, some, none}
 use Prim.Native.Nat.{ℕ}
 use lib.Dec.{eqb}
@@ -14,26 +15,35 @@ use Rattle.rules.specs.Seal.{frame}
 use Rattle.rules.specs.Check.{checkedRoot}
 use Rattle.counts.specs.Counts.{count}
 use Rattle.calls.specs.Hashes.{familyFor}
-use Rattle.answers.specs.Answers.{number, Refusals, smallest, missing, fails, messageFits, same}
+use Rattle.answers.specs.Answers.{number, messageLimit}
+use Rattle.answers.specs.Tests.{equal, within, alike, known, under}
+use Rattle.answers.specs.Lines.{Line, line, first}
 use Rattle.checking.specs.declared.Verdict.{Verdict}
 
--- Under the row of the set, if it has one: a public key, a message and a presented seal.
+-- Under the row of the set, if it has one: how many bytes a public key, a message and a presented seal have. These
+-- lines are tested before any walk.
+abbrev pub lengthLines : Option Row → (public message seal : ℕ) → List Line
+lengthLines row public message seal =
+    line 1 (known row)
+    ∷ line 2 (under row (λ r. equal public (r .publicBytes)))
+    ∷ line 3 (within message messageLimit)
+    ∷ line 4 (under row (λ r. equal seal (r .sealBytes)))
+    ∷ []
+
+-- A public key, a message and a presented seal.
 module _ (row : Option Row) (public message seal : Bytes) where
   abbrev pub recomputed : (r : Row) → Run Bytes
   recomputed r = checkedRoot r (familyFor r) public (frame message) seal
 
-  abbrev pub checkRefusals : Refusals
-  checkRefusals = record {
-    unknown-set = missing row;
-    wrong-length = fails row (λ r. eqb (length public) (r .publicBytes));
-    long-message = not (messageFits (length message));
-    wrong-room = fails row (λ r. eqb (length seal) (r .sealBytes));
-    other-root = fails row (λ r. same (recomputed r .result) (piece (r .n) 1 public));
-    no-part = false;
-  }
+  -- After the walk: the recomputed root is the key's.
+  abbrev pub rootLine : Line
+  rootLine = line 5 (under row (λ r. alike (recomputed r .result) (piece (r .n) 1 public)))
+
+  abbrev pub checkLines : List Line
+  checkLines = lengthLines row (length public) (length message) (length seal) ++ (rootLine ∷ [])
 
   abbrev pub checkAnswer : ℕ
-  checkAnswer = smallest checkRefusals
+  checkAnswer = first checkLines
 
   -- The F calls in the definition's list, where the check walked: for answers 0 and 5.
   abbrev fCallsUnder : Option Row → ℕ

@@ -1,18 +1,20 @@
 // Checking.
 ghost use mathlib.Core.Path.{_≡_};
-ghost use mathlib.Core.Bool.{true};
+ghost use mathlib.Core.Bool.{cond};
 ghost use mathlib.Core.Option.{some};
-ghost use lib.Dec.{eqb};
+ghost use Prim.Native.Nat.{_≤_};
+ghost use lib.ListN.{take};
 ghost use Rattle.rules.specs.Sets.{rowOf};
 ghost use Rattle.rows.specs.Rows.{ruledRow};
 ghost use Rattle.rows.specs.Ready.{Ready};
-ghost use Rattle.answers.specs.Answers.{number, smallest, tested, messageFits};
-ghost use Rattle.checking.specs.Checks.{Checked};
+ghost use Rattle.answers.specs.Answers.{number};
+ghost use Rattle.answers.specs.Tests.{same};
+ghost use Rattle.answers.specs.Lines.{first};
+ghost use Rattle.checking.specs.Checks.{lengthLines, Checked};
 use answers::Answer;
-use answers::first_failed;
-use answers::message_fits;
 use answers::number_of;
 use answers::same;
+use answers::unless;
 use checks::checked_root;
 use rows::Found;
 use rows::Row;
@@ -24,17 +26,30 @@ pub struct Verdict {
     pub calls: u32,
 }
 
-// The tests of the lengths.
+// The lines before the walk, under a known set, from the last to the first.
 fn check_answer(row: Row, public: usize, message: usize, seal: usize) -> Answer
-    ensures { λ r. ⌜ number r ≡ smallest (tested (eqb public (row .public)) (messageFits message)
-        (eqb seal (row .seal)) true) ⌝ }
+    ensures { λ r. ⌜ number r ≡ first (lengthLines (some (ruledRow row)) public message seal) ⌝ }
 {
-    first_failed(
-        public == row.public,
-        message_fits(message),
-        seal == row.seal,
-        true,
-    )
+    let key = public == row.public;
+    let room = seal == row.seal;
+    let fits = message <= 65536;
+    let four = unless(room, Answer::SealLength, Answer::Done);
+    let three = unless(fits, Answer::MessageLength, four);
+    unless(key, Answer::InputLength, three)
+}
+
+// The verdict on the root that a walk came to, of n bytes, beside the key's own.
+fn judged(root: [u8; 32], calls: u32, n: usize, own: &[u8]) -> Verdict
+    requires { ⌜ n ≤ 32 ⌝ }
+    ensures { λ r. ⌜ number (r .answer) ≡ cond (same (take n root) (now (own .entry))) 0 5 ⌝ }
+    ensures { λ r. ⌜ r .calls ≡ calls ⌝ }
+{
+    let alike = same(&root[..n], own);
+    let answer = unless(alike, Answer::RootDiffers, Answer::Done);
+    Verdict {
+        answer: answer,
+        calls: calls,
+    }
 }
 
 // Under a known set: the lengths come before any walk.
@@ -52,18 +67,9 @@ fn check_under(row: Row, public: &[u8], message: &[u8], seal: &[u8]) -> Verdict
         };
     }
     let walked = checked_root(row, public, message, seal);
-    let root = walked.value;
     let calls = walked.calls;
-    if same(&root[..n], &public[n..]) {
-        return Verdict {
-            answer: Answer::Done,
-            calls: calls,
-        };
-    }
-    Verdict {
-        answer: Answer::RootDiffers,
-        calls: calls,
-    }
+    let root = walked.value;
+    judged(root, calls, n, &public[n..])
 }
 
 // Checks a seal of a message (FIPS 205, algorithm 24 with an empty context), and counts the F calls.

@@ -3,12 +3,12 @@
 -- Assumes nothing.
 use mathlib.Core.Path.{_≡_, refl, sym, ap, _∙_, subst}
 use mathlib.Core.Logic.{_↔_, Iff·trans, _≢_, _⊎_, inl, inr}
-use mathlib.Core.Bool.{true, _&&_, _||_}
+use mathlib.Core.Bool.{true}
 use mathlib.Core.List.{List, []}
 use mathlib.Core.Option.{Option, some, none}
 use Prim.Native.Nat.{ℕ, zero, suc, _+_, _*_, _≤_, _<_}
+use native.Mathlib.Nat.{not-le-of-lt}
 use native.Mathlib.Omega.{arith}
-use lib.Dec.{eqb}
 use lib.ListN.{length}
 use Rattle.rules.specs.Places.{Bytes}
 use Rattle.rules.specs.Calls.{F, of}
@@ -26,76 +26,49 @@ use Rattle.counts.proofs.CountLaws.{F-calls}
 use Rattle.counts.proofs.CostLaws.{by-cost, F-least, F-greatest}
 use Rattle.rules.proofs.SetLaws.{rowOf-legal}
 use Rattle.calls.specs.Hashes.{familyFor}
-use Rattle.answers.specs.Answers.{number, Refusals, applies, smallest, messageLimit, same}
-use Rattle.making.specs.Keys.{keysRefusals, KeysMade}
-use Rattle.sealing.specs.Seals.{sealRefusals, Sealed}
-use Rattle.checking.specs.Checks.{checkRefusals, checkAnswer, checkCalls, Checked}
-use Rattle.part_reading.specs.Parts.{partRefusals, partAnswer, partGiven}
-use Rattle.digit_reading.specs.Digits.{digitsRefusals, DigitsRead}
-use Rattle.demands.specs.Table.{Given, Under, Unlisted, SeedsLong, KeysLong, SealInputsLong, Fitting, SameRoot, keysLine, sealLine, checkLine, partLine, digitsLine}
+use Rattle.answers.specs.Answers.{number}
+use Rattle.answers.specs.Tests.{Under}
+use Rattle.answers.specs.Lines.{Line, first, NoneApplies}
+use Rattle.making.specs.Keys.{keysLines, KeysMade}
+use Rattle.sealing.specs.Seals.{sealLines, Sealed}
+use Rattle.checking.specs.Checks.{checkLines, checkAnswer, checkCalls, Checked}
+use Rattle.part_reading.specs.Parts.{partLines, partAnswer, partGiven}
+use Rattle.digit_reading.specs.Digits.{digitsLines, DigitsRead}
+use Rattle.demands.specs.Table.{Given, Applies, applies, noneBefore, ordered, Unlisted, Fitting}
 use Rattle.answers.specs.declared.Answer.{Answer}
 use Rattle.checking.specs.declared.Verdict.{Verdict}
-use Rattle.demands.proofs.TellLaws.{Tells, eqb-tells, leb-tells, always-tells, never-tells, and-tells, or-tells, above-tells, same-tells, missing-tells, at-row, mapped, fails-tells, fails-not, no-row, smallest-given, one-given, answer-given, all-pass, done-when, known-row, walked-calls, idle-calls}
+use Rattle.answers.proofs.TestLaws.{at-row}
 use Rattle.answers.proofs.AnswerLaws.{settled-made, settled-kept, number-injective}
+use Rattle.checking.proofs.CheckingLaws.{walked-calls, no-calls}
+use Rattle.demands.proofs.RowLaws.{found, mapped, no-row}
+use Rattle.demands.proofs.GivenLaws.{answer-given, answer-computed, done-when}
 
 -- ==== Demand 1
 
--- The smallest number that applies is the one that the table gives.
-pub given : (r : Refusals) (c : ℕ) → (smallest r ≡ c) ↔ Given (λ k. applies r k ≡ true) c
-unfolding applies
-given r c = (
-  λ e. subst (Given line) e (smallest-given r),
-  λ g. one-given line (λ e. absurd (never-tells .told e)) (smallest r) c (smallest-given r) g,
-)
-  where
-    line : ℕ → Type 0
-    line k = applies r k ≡ true
+-- Of lines in the paper's order, the number of the first that applies is the one that the table gives.
+pub given : (ls : List Line) → ordered ls ≡ true → (c : ℕ) → (first ls ≡ c) ↔ Given (λ k. applies ls k ≡ true) c
+given = answer-computed
 
 -- Line 1 of the table applies exactly when the set number is none of the table of sets.
 pub unknown-set : (set : ℕ) → (rowOf set ≡ none) ↔ Unlisted set rows
 unknown-set = no-row
 
--- The tests of lengths tell what a set asks.
-seeds-tell : (skSeed skPrf pkSeed : Bytes) (r : Row)
-    → Tells (eqb (length skSeed) (r .n) && (eqb (length skPrf) (r .n) && eqb (length pkSeed) (r .n)))
-    (SeedsLong skSeed skPrf pkSeed r)
-seeds-tell skSeed skPrf pkSeed r =
-    and-tells _ _ _ _ (eqb-tells (length skSeed) (r .n))
-    (and-tells _ _ _ _ (eqb-tells (length skPrf) (r .n)) (eqb-tells (length pkSeed) (r .n)))
-
-keys-tell : (public secret : Bytes) (r : Row)
-    → Tells (eqb (length public) (r .publicBytes) && eqb (length secret) (r .secretBytes)) (KeysLong public secret r)
-keys-tell public secret r =
-    and-tells _ _ _ _ (eqb-tells (length public) (r .publicBytes)) (eqb-tells (length secret) (r .secretBytes))
-
-inputs-tell : (secret random : Bytes) (r : Row)
-    → Tells (eqb (length secret) (r .secretBytes) && (eqb (length random) 0 || eqb (length random) (r .n)))
-    (SealInputsLong secret random r)
-inputs-tell secret random r =
-    and-tells _ _ _ _ (eqb-tells (length secret) (r .secretBytes))
-    (or-tells _ _ _ _ (eqb-tells (length random) 0) (eqb-tells (length random) (r .n)))
-
 -- ---- Key making
 
 module _ (set : ℕ) (skSeed skPrf pkSeed public secret : Bytes) (a : Answer) (public-after secret-after : Bytes)
     (made : KeysMade (rowOf set) skSeed skPrf pkSeed public secret a public-after secret-after) where
-  -- "gives a numbered refusal exactly when the paper says so"
-  pub keys-answer : (c : ℕ) → (number a ≡ c) ↔ Given (keysLine (rowOf set) skSeed skPrf pkSeed public secret) c
-  keys-answer =
-      answer-given (keysRefusals (rowOf set) skSeed skPrf pkSeed public secret) _ _ _ _ _ _ (missing-tells (rowOf set))
-      (fails-not (rowOf set) _ (SeedsLong skSeed skPrf pkSeed) (seeds-tell skSeed skPrf pkSeed)) never-tells
-      (fails-not (rowOf set) _ (KeysLong public secret) (keys-tell public secret)) never-tells never-tells (number a)
-      (made .answered)
+  abbrev keys-lines : List Line
+  keys-lines =
+      keysLines (rowOf set) (length skSeed) (length skPrf) (length pkSeed) (length public) (length secret)
 
-  -- The keys are made exactly when the set is known and each length is the set's.
-  pub keys-done : (number a ≡ 0)
-      ↔ Under (rowOf set) (λ r. SeedsLong skSeed skPrf pkSeed r × KeysLong public secret r)
-  keys-done =
-      done-when (rowOf set) (λ row. keysRefusals row skSeed skPrf pkSeed public secret) (number a) (made .answered) refl
-      (λ r. SeedsLong skSeed skPrf pkSeed r × KeysLong public secret r) (λ r.
-      Iff·trans (all-pass _ _ _ _ _ _ _ _ _ _ (seeds-tell skSeed skPrf pkSeed r) always-tells
-      (keys-tell public secret r) always-tells always-tells)
-      (λ p. (p .0, p .1 .1 .0), λ q. (q .0, (tt, (q .1, (tt, tt))))))
+  -- "gives a numbered refusal exactly when the paper says so"
+  pub keys-answer : (c : ℕ) → (number a ≡ c) ↔ Given (Applies keys-lines) c
+  unfolding ordered noneBefore
+  keys-answer = answer-given keys-lines refl (number a) (made .answered)
+
+  -- The keys are made exactly when no line applies.
+  pub keys-done : (number a ≡ 0) ↔ NoneApplies keys-lines
+  keys-done = done-when keys-lines refl (number a) (made .answered)
 
   -- "A refusal changes no byte of any buffer."
   pub keys-kept : number a ≢ 0 → (public-after ≡ public) × (secret-after ≡ secret)
@@ -108,24 +81,17 @@ module _ (set : ℕ) (skSeed skPrf pkSeed public secret : Bytes) (a : Answer) (p
 
 module _ (set : ℕ) (secret message random out : Bytes) (a : Answer) (out-after : Bytes)
     (sealed : Sealed (rowOf set) secret message random out a out-after) where
-  -- "gives a numbered refusal exactly when the paper says so"
-  pub seal-answer : (c : ℕ) → (number a ≡ c) ↔ Given (sealLine (rowOf set) secret message random out) c
-  seal-answer =
-      answer-given (sealRefusals (rowOf set) secret message random out) _ _ _ _ _ _ (missing-tells (rowOf set))
-      (fails-not (rowOf set) _ (SealInputsLong secret random) (inputs-tell secret random))
-      (above-tells (length message) messageLimit)
-      (fails-not (rowOf set) _ (λ r. length out ≡ r .sealBytes) (λ r. eqb-tells (length out) (r .sealBytes)))
-      never-tells never-tells (number a) (sealed .answered)
+  abbrev seal-lines : List Line
+  seal-lines = sealLines (rowOf set) (length secret) (length message) (length random) (length out)
 
-  -- A seal is written exactly when the set is known, each length is the set's and the message is within the limit.
-  pub seal-done : (number a ≡ 0) ↔ Under (rowOf set) (λ r.
-      SealInputsLong secret random r × (Fitting message × (length out ≡ r .sealBytes)))
-  seal-done =
-      done-when (rowOf set) (λ row. sealRefusals row secret message random out) (number a) (sealed .answered) refl
-      (λ r. SealInputsLong secret random r × (Fitting message × (length out ≡ r .sealBytes))) (λ r.
-      Iff·trans (all-pass _ _ _ _ _ _ _ _ _ _ (inputs-tell secret random r) (leb-tells (length message) messageLimit)
-      (eqb-tells (length out) (r .sealBytes)) always-tells always-tells)
-      (λ p. (p .0, (p .1 .0, p .1 .1 .0)), λ q. (q .0, (q .1 .0, (q .1 .1, (tt, tt))))))
+  -- "gives a numbered refusal exactly when the paper says so"
+  pub seal-answer : (c : ℕ) → (number a ≡ c) ↔ Given (Applies seal-lines) c
+  unfolding ordered noneBefore
+  seal-answer = answer-given seal-lines refl (number a) (sealed .answered)
+
+  -- A seal is written exactly when no line applies.
+  pub seal-done : (number a ≡ 0) ↔ NoneApplies seal-lines
+  seal-done = done-when seal-lines refl (number a) (sealed .answered)
 
   -- "A refusal changes no byte of any buffer."
   pub seal-kept : number a ≢ 0 → out-after ≡ out
@@ -134,43 +100,25 @@ module _ (set : ℕ) (secret message random out : Bytes) (a : Answer) (out-after
 
 -- ---- Checking, which is lent nothing to write to
 
--- The test of the roots tells whether they are the same.
-root-tells : (public message seal : Bytes) (r : Row)
-    → Tells (same (checkedRoot r (familyFor r) public (frame message) seal .result) (piece (r .n) 1 public))
-    (SameRoot public message seal r)
-root-tells public message seal r =
-    same-tells (checkedRoot r (familyFor r) public (frame message) seal .result) (piece (r .n) 1 public)
-
 module _ (set : ℕ) (public message seal : Bytes) (v : Verdict)
     (checked : Checked (rowOf set) public message seal v) where
   -- "gives a numbered refusal exactly when the paper says so"; when it is 0, `accepted-exactly` says.
-  pub check-answer : (c : ℕ) → (number (v .answer) ≡ c) ↔ Given (checkLine (rowOf set) public message seal) c
+  pub check-answer : (c : ℕ) → (number (v .answer) ≡ c) ↔ Given (Applies (checkLines (rowOf set) public message seal)) c
+  unfolding ordered noneBefore
   check-answer =
-      answer-given (checkRefusals (rowOf set) public message seal) _ _ _ _ _ _ (missing-tells (rowOf set))
-      (fails-not (rowOf set) _ (λ r. length public ≡ r .publicBytes) (λ r. eqb-tells (length public) (r .publicBytes)))
-      (above-tells (length message) messageLimit)
-      (fails-not (rowOf set) _ (λ r. length seal ≡ r .sealBytes) (λ r. eqb-tells (length seal) (r .sealBytes)))
-      (fails-not (rowOf set) _ (SameRoot public message seal) (root-tells public message seal)) never-tells
-      (number (v .answer)) (checked .answered)
+      answer-given (checkLines (rowOf set) public message seal) refl (number (v .answer)) (checked .answered)
 
 -- ---- Part reading: its answer, and its part
 
 module _ (set : ℕ) (seal : Bytes) (k : ℕ) (a : Answer) (answered : number a ≡ partAnswer (rowOf set) seal k) where
   -- "gives a numbered refusal exactly when the paper says so"
-  pub part-answer : (c : ℕ) → (number a ≡ c) ↔ Given (partLine (rowOf set) seal k) c
-  part-answer =
-      answer-given (partRefusals (rowOf set) seal k) _ _ _ _ _ _ (missing-tells (rowOf set)) never-tells never-tells
-      (fails-not (rowOf set) _ (λ r. length seal ≡ r .sealBytes) (λ r. eqb-tells (length seal) (r .sealBytes)))
-      never-tells (fails-tells (rowOf set) _ (λ r. r .d + 1 < k) (λ r. above-tells k (r .d + 1))) (number a) answered
+  pub part-answer : (c : ℕ) → (number a ≡ c) ↔ Given (Applies (partLines (rowOf set) (length seal) k)) c
+  unfolding ordered noneBefore
+  part-answer = answer-given (partLines (rowOf set) (length seal) k) refl (number a) answered
 
-  -- A part is handed out exactly when the set is known, the seal has its length and the part is one of 0 to d + 1.
-  pub part-done : (number a ≡ 0) ↔ Under (rowOf set) (λ r. (length seal ≡ r .sealBytes) × (k ≤ r .d + 1))
-  part-done =
-      done-when (rowOf set) (λ row. partRefusals row seal k) (number a) answered refl
-      (λ r. (length seal ≡ r .sealBytes) × (k ≤ r .d + 1)) (λ r.
-      Iff·trans (all-pass _ _ _ _ _ _ _ _ _ _ always-tells always-tells (eqb-tells (length seal) (r .sealBytes))
-      always-tells (leb-tells k (r .d + 1)))
-      (λ p. (p .1 .1 .0, p .1 .1 .1 .1), λ q. (tt, (tt, (q .0, (tt, q .1))))))
+  -- A part is handed out exactly when no line applies.
+  pub part-done : (number a ≡ 0) ↔ NoneApplies (partLines (rowOf set) (length seal) k)
+  part-done = done-when (partLines (rowOf set) (length seal) k) refl (number a) answered
 
   -- "Part reading returns an empty part with every refusal"
   pub part-empty : (given-part : Bytes) → given-part ≡ partGiven (rowOf set) seal k → number a ≢ 0 → given-part ≡ []
@@ -182,22 +130,15 @@ module _ (set : ℕ) (seal : Bytes) (k : ℕ) (a : Answer) (answered : number a 
 module _ (set : ℕ) (value : Bytes) (digits : List ℕ) (a : Answer) (digits-after : List ℕ)
     (read : DigitsRead (rowOf set) value digits a digits-after) where
   -- "gives a numbered refusal exactly when the paper says so"
-  pub digits-answer : (c : ℕ) → (number a ≡ c) ↔ Given (digitsLine (rowOf set) value digits) c
+  pub digits-answer : (c : ℕ)
+      → (number a ≡ c) ↔ Given (Applies (digitsLines (rowOf set) (length value) (length digits))) c
+  unfolding ordered noneBefore
   digits-answer =
-      answer-given (digitsRefusals (rowOf set) value digits) _ _ _ _ _ _ (missing-tells (rowOf set))
-      (fails-not (rowOf set) _ (λ r. length value ≡ r .n) (λ r. eqb-tells (length value) (r .n))) never-tells
-      (fails-not (rowOf set) _ (λ r. length digits ≡ chains (r .n)) (λ r. eqb-tells (length digits) (chains (r .n))))
-      never-tells never-tells (number a) (read .answered)
+      answer-given (digitsLines (rowOf set) (length value) (length digits)) refl (number a) (read .answered)
 
-  -- Digits are written exactly when the set is known and each length is the set's.
-  pub digits-done : (number a ≡ 0) ↔ Under (rowOf set) (λ r.
-      (length value ≡ r .n) × (length digits ≡ chains (r .n)))
-  digits-done =
-      done-when (rowOf set) (λ row. digitsRefusals row value digits) (number a) (read .answered) refl
-      (λ r. (length value ≡ r .n) × (length digits ≡ chains (r .n))) (λ r.
-      Iff·trans (all-pass _ _ _ _ _ _ _ _ _ _ (eqb-tells (length value) (r .n)) always-tells
-      (eqb-tells (length digits) (chains (r .n))) always-tells always-tells)
-      (λ p. (p .0, p .1 .1 .0), λ q. (q .0, (tt, (q .1, (tt, tt))))))
+  -- Digits are written exactly when no line applies.
+  pub digits-done : (number a ≡ 0) ↔ NoneApplies (digitsLines (rowOf set) (length value) (length digits))
+  digits-done = done-when (digitsLines (rowOf set) (length value) (length digits)) refl (number a) (read .answered)
 
   -- "A refusal changes no byte of any buffer."
   pub digits-kept : number a ≢ 0 → digits-after ≡ digits
@@ -213,37 +154,33 @@ pub keys-are : (set : ℕ) (skSeed skPrf pkSeed public secret : Bytes) (a : Answ
     (public-after ≡ publicKey r (familyFor r) skSeed pkSeed)
     × (secret-after ≡ secretKey r (familyFor r) skSeed skPrf pkSeed))
 keys-are set skSeed skPrf pkSeed public secret a public-after secret-after made done =
-    mapped (rowOf set) _ _
-    (λ r e legal. (
+    found (rowOf set) _ (keys-done set skSeed skPrf pkSeed public secret a public-after secret-after made .0 done .0)
+    (λ r e. (
       made .public-is ∙ settled-made _ (rowOf set) _ public r (sym (made .answered) ∙ done) e,
       made .secret-is ∙ settled-made _ (rowOf set) _ secret r (sym (made .answered) ∙ done) e,
     ))
-    (keys-done set skSeed skPrf pkSeed public secret a public-after secret-after made .0 done)
 
 pub seal-is : (set : ℕ) (secret message random out : Bytes) (a : Answer) (seal : Bytes)
     → Sealed (rowOf set) secret message random out a seal → number a ≡ 0
     → Under (rowOf set) (λ r. seal ≡ sealOf r (familyFor r) secret random (frame message) .result)
 seal-is set secret message random out a seal sealed done =
-    mapped (rowOf set) _ _
-    (λ r e legal. sealed .out-is ∙ settled-made _ (rowOf set) _ out r (sym (sealed .answered) ∙ done) e)
-    (seal-done set secret message random out a seal sealed .0 done)
+    found (rowOf set) _ (seal-done set secret message random out a seal sealed .0 done .0)
+    (λ r e. sealed .out-is ∙ settled-made _ (rowOf set) _ out r (sym (sealed .answered) ∙ done) e)
 
 -- The two readings: the part as it lies in the seal, and the digits with their checksum.
 pub part-is : (set : ℕ) (seal : Bytes) (k : ℕ) (a : Answer) (given-part : Bytes)
     → number a ≡ partAnswer (rowOf set) seal k → given-part ≡ partGiven (rowOf set) seal k → number a ≡ 0
     → Under (rowOf set) (λ r. given-part ≡ part r k seal)
 part-is set seal k a given-part answered read done =
-    mapped (rowOf set) _ _
-    (λ r e legal. read ∙ settled-made _ (rowOf set) _ [] r (sym answered ∙ done) e)
-    (part-done set seal k a answered .0 done)
+    found (rowOf set) _ (part-done set seal k a answered .0 done .0)
+    (λ r e. read ∙ settled-made _ (rowOf set) _ [] r (sym answered ∙ done) e)
 
 pub digits-are : (set : ℕ) (value : Bytes) (digits : List ℕ) (a : Answer) (digits-after : List ℕ)
     → DigitsRead (rowOf set) value digits a digits-after → number a ≡ 0
     → Under (rowOf set) (λ r. digits-after ≡ chainDigits (r .n) value)
 digits-are set value digits a digits-after read done =
-    mapped (rowOf set) _ _
-    (λ r e legal. read .digits-are ∙ settled-made _ (rowOf set) _ digits r (sym (read .answered) ∙ done) e)
-    (digits-done set value digits a digits-after read .0 done)
+    found (rowOf set) _ (digits-done set value digits a digits-after read .0 done .0)
+    (λ r e. read .digits-are ∙ settled-made _ (rowOf set) _ digits r (sym (read .answered) ∙ done) e)
 
 -- "A check accepts exactly when set and lengths are legal and the root recomputed by FIPS 205 equals the key's."
 pub accepted-exactly : (set : ℕ) (public message seal : Bytes) (v : Verdict)
@@ -251,15 +188,20 @@ pub accepted-exactly : (set : ℕ) (public message seal : Bytes) (v : Verdict)
     → (number (v .answer) ≡ 0) ↔ Under (rowOf set) (λ r.
     (length public ≡ r .publicBytes) × (Fitting message × Accepted r (familyFor r) public (frame message) seal))
 accepted-exactly set public message seal v checked =
-    done-when (rowOf set) (λ row. checkRefusals row public message seal) (number (v .answer)) (checked .answered) refl
-    (λ r. (length public ≡ r .publicBytes) × (Fitting message × Accepted r (familyFor r) public (frame message) seal))
-    (λ r.
-    Iff·trans (all-pass _ _ _ _ _ _ _ _ _ _ (eqb-tells (length public) (r .publicBytes))
-    (leb-tells (length message) messageLimit) (eqb-tells (length seal) (r .sealBytes))
-    (root-tells public message seal r) always-tells) (
-      λ p. (p .0, (p .1 .0, record { long = p .1 .1 .0; same-root = p .1 .1 .1 .0 })),
-      λ q. (q .0, (q .1 .0, (q .1 .1 .long, (q .1 .1 .same-root, tt)))),
-    ))
+    Iff·trans
+    (done-when (checkLines (rowOf set) public message seal) refl (number (v .answer)) (checked .answered)) (
+      λ h. found (rowOf set) _ (h .0) (λ r e. (
+        h .1 .0 r e,
+        (h .1 .1 .0, record { long = h .1 .1 .1 .0 r e; same-root = h .1 .1 .1 .1 .0 r e }),
+      )),
+      λ u. let at = at-row (rowOf set) _ in (
+        (u .known, u .found),
+        (
+          λ r e. at r e u .0,
+          (u .holds .1 .0, (λ r e. at r e u .1 .1 .long, (λ r e. at r e u .1 .1 .same-root, tt))),
+        ),
+      ),
+    )
 
 -- A key pair from key making, and its set.
 module _ (set : ℕ) (skSeed skPrf pkSeed public-was secret-was : Bytes) (a : Answer) (public secret : Bytes)
@@ -272,11 +214,18 @@ module _ (set : ℕ) (skSeed skPrf pkSeed public-was secret-was : Bytes) (a : An
   keys : Under (rowOf set) Pair
   keys = keys-are set skSeed skPrf pkSeed public-was secret-was a public secret made done
 
-  -- The seeds that a key pair was made from have the set's length.
-  seeds-long : (r : Row) → rowOf set ≡ some r → SeedsLong skSeed skPrf pkSeed r
-  seeds-long r e =
-      at-row (rowOf set) (λ q. SeedsLong skSeed skPrf pkSeed q × KeysLong public-was secret-was q) r e
-      (keys-done set skSeed skPrf pkSeed public-was secret-was a public secret made .0 done) .0
+  -- No line of key making applied, so the seeds have the set's length.
+  none-applied : NoneApplies (keys-lines set skSeed skPrf pkSeed public-was secret-was a public secret made)
+  none-applied = keys-done set skSeed skPrf pkSeed public-was secret-was a public secret made .0 done
+
+  sk-long : (r : Row) → rowOf set ≡ some r → length skSeed ≡ r .n
+  sk-long = none-applied .1 .0
+
+  prf-long : (r : Row) → rowOf set ≡ some r → length skPrf ≡ r .n
+  prf-long = none-applied .1 .1 .0
+
+  pk-long : (r : Row) → rowOf set ≡ some r → length pkSeed ≡ r .n
+  pk-long = none-applied .1 .1 .1 .0
 
   -- "Every seal made with a secret key from our key making for the same set is accepted, for that message, under its
   -- public key."
@@ -288,12 +237,12 @@ module _ (set : ℕ) (skSeed skPrf pkSeed public-was secret-was : Bytes) (a : An
       (mapped (rowOf set) _ _ (λ r e ks. (long r e ks, (fits, accepted r e ks))) keys)
     where
       fits : Fitting message
-      fits = seal-done set secret message random out b seal sealed .0 sealing-done .holds .1 .0
+      fits = seal-done set secret message random out b seal sealed .0 sealing-done .1 .1 .1 .0
 
       long : (r : Row) → rowOf set ≡ some r → Pair r → length public ≡ r .publicBytes
       long r e ks =
           ap length (ks .0)
-          ∙ publicKey-long r (familyFor r) skSeed pkSeed (seeds-long r e .1 .1) (rowOf-legal set r e .1)
+          ∙ publicKey-long r (familyFor r) skSeed pkSeed (pk-long r e) (rowOf-legal set r e .1)
 
       accepted : (r : Row) → rowOf set ≡ some r → Pair r → Accepted r (familyFor r) public (frame message) seal
       accepted r e ks =
@@ -302,8 +251,8 @@ module _ (set : ℕ) (skSeed skPrf pkSeed public-was secret-was : Bytes) (a : An
             at-row (rowOf set) _ r e (seal-is set secret message random out b seal sealed sealing-done),
             ks .1,
           )
-          (accepts r (familyFor r) (rowOf-legal set r e .1) skSeed skPrf pkSeed (seeds-long r e .0)
-          (seeds-long r e .1 .0) (seeds-long r e .1 .1) random (frame message))
+          (accepts r (familyFor r) (rowOf-legal set r e .1) skSeed skPrf pkSeed (sk-long r e)
+          (prf-long r e) (pk-long r e) random (frame message))
 
   -- ==== Demand 3
 
@@ -316,7 +265,7 @@ module _ (set : ℕ) (skSeed skPrf pkSeed public-was secret-was : Bytes) (a : An
       mapped (rowOf set) _ _
       (λ r e q.
       one-of-three r (rowOf-legal set r e .1) (familyFor r) skSeed pkSeed (frame message) seal
-      (seeds-long r e .1 .1)
+      (pk-long r e)
       (subst (λ (x : Bytes). Accepted r (familyFor r) x (frame message) seal) (at-row (rowOf set) _ r e keys .0)
       (q .1 .1)))
       (accepted-exactly set public message seal v checked .0 accepted)
@@ -379,9 +328,9 @@ module _ (set : ℕ) (public message seal : Bytes) (v : Verdict)
       × ((v .calls ≡ fCalls r (familyFor r) public (frame message) seal)
       × ((v .calls ≡ callsByCost r (familyFor r) public (frame message) seal)
       × ((r .k + 45 * r .d ≤ v .calls) × (v .calls ≤ r .k + cost (30 * r .n) * r .d)))))
+  unfolding first
   calls-counted walked =
-      let (r, e) = known-row (rowOf set) (λ row. checkRefusals row public message seal) (number (v .answer))
-      (checked .answered) refl (not-one walked) in
+      let (r, e) = known-row (rowOf set) refl in
       let legal = rowOf-legal set r e .1 in
       let listed = calls-under r e walked in
       let summed = listed ∙ F-calls r (familyFor r) legal public (frame message) seal in
@@ -398,9 +347,17 @@ module _ (set : ℕ) (public message seal : Bytes) (v : Verdict)
       not-one (inl z) one = absurd (omega arith)
       not-one (inr z) one = absurd (omega arith)
 
+      -- Without a row the answer is 1.
+      known-row : (row : Option Row) → rowOf set ≡ row → (r : Row) × (rowOf set ≡ some r)
+      known-row (some r) e = (r, e)
+      known-row none e =
+          absurd (not-one walked
+          (checked .answered ∙ ap (λ (o : Option Row). checkAnswer o public message seal) e))
+
   -- "Answers 1 to 4 report 0"
   pub calls-none : 0 < number (v .answer) → number (v .answer) < 5 → v .calls ≡ 0
   calls-none low high =
       checked .counted
-      ∙ idle-calls (checkAnswer (rowOf set) public message seal) _ (rw (checked .answered) at low)
-      (rw (checked .answered) at high)
+      ∙ sym (no-calls (checkAnswer (rowOf set) public message seal) _
+      (λ z. not-le-of-lt low (omega (arith, checked .answered, z)))
+      (λ z. not-le-of-lt high (omega (arith, checked .answered, z))))

@@ -1,2 +1,3 @@
-pub mod TellLaws
+pub mod RowLaws
+pub mod GivenLaws
 pub mod Demands

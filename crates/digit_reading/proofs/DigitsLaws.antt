@@ -1,21 +1,19 @@
 -- What digit reading promises, from what its tests and its work gave, on plain values.
 -- Assumes nothing.
 use mathlib.Core.Path.{_≡_, refl, sym, ap, _∙_}
-use mathlib.Core.Bool.{true}
 use mathlib.Core.List.{List}
 use mathlib.Core.Option.{Option, some, none}
 use Prim.Native.Nat.{ℕ}
-use lib.Dec.{eqb}
 use lib.ListN.{length}
-use borrow.Author.Tests.{eqb-true}
 use Rattle.rules.specs.Places.{Bytes}
 use Rattle.rules.specs.Chains.{chains, chainDigits}
 use Rattle.rules.specs.Sets.{Row}
-use Rattle.answers.specs.Answers.{number, smallest, settled}
-use Rattle.digit_reading.specs.Digits.{DigitsRead, digitsAnswer}
+use Rattle.answers.specs.Answers.{number, settled}
+use Rattle.answers.specs.Lines.{first}
+use Rattle.digit_reading.specs.Digits.{digitsLines, digitsAnswer, DigitsRead}
 use Rattle.answers.specs.declared.Answer.{Answer}
 use Rattle.answers.specs.declared.Answer.the-variants.{Done, UnknownSet}
-use Rattle.answers.proofs.TestLaws.{passed}
+use Rattle.answers.proofs.LineLaws.{zero-given}
 use Rattle.answers.proofs.AnswerLaws.{settled-made, settled-kept}
 
 -- A promise under a row is the promise under the same row by another name.
@@ -26,15 +24,15 @@ module _ {row other : Option Row} (e : row ≡ other) where
 
 module _ (value : Bytes) (digits : List ℕ) where
   pub digits-unknown : DigitsRead none value digits UnknownSet digits
-  unfolding smallest settled
+  unfolding first settled
   digits-unknown = record { answered = refl; digits-are = refl }
 
   module _ (r : Row) where
     pub digits-long : digitsAnswer (some r) value digits ≡ 0
         → (length value ≡ r .n) × (length digits ≡ chains (r .n))
     digits-long z =
-        let t = passed (eqb (length value) (r .n)) true (eqb (length digits) (chains (r .n))) true z in
-        (eqb-true _ _ (t .lengths-pass), eqb-true _ _ (t .room-passes))
+        let none-applies = zero-given (digitsLines (some r) (length value) (length digits)) refl .0 z in
+        (none-applies .1 .0 r refl, none-applies .1 .1 .0 r refl)
 
     pub digits-done : {digits′ : List ℕ} → digitsAnswer (some r) value digits ≡ 0
         → digits′ ≡ chainDigits (length value) value → DigitsRead (some r) value digits Done digits′

@@ -4,13 +4,26 @@ ghost use mathlib.Core.Option.{some};
 ghost use Rattle.rules.specs.Sets.{rowOf};
 ghost use Rattle.rows.specs.Rows.{ruledRow};
 ghost use Rattle.rows.specs.Ready.{Ready};
-ghost use Rattle.digit_reading.specs.Digits.{DigitsRead};
+ghost use Rattle.answers.specs.Answers.{number};
+ghost use Rattle.answers.specs.Lines.{first};
+ghost use Rattle.digit_reading.specs.Digits.{digitsLines, DigitsRead};
 use answers::Answer;
-use answers::first_failed;
 use answers::number_of;
+use answers::unless;
 use rows::Found;
 use rows::Row;
 use rows::find_row;
+
+// The lines under a known set, from the last to the first.
+fn digits_answer(row: Row, value: usize, digits: usize) -> Answer
+    requires { ⌜ Ready (ruledRow row) ⌝ }
+    ensures { λ r. ⌜ number r ≡ first (digitsLines (some (ruledRow row)) value digits) ⌝ }
+{
+    let n = row.n;
+    let room = digits == 2 * n + 3;
+    let four = unless(room, Answer::SealLength, Answer::Done);
+    unless(value == n, Answer::InputLength, four)
+}
 
 // Under a known set.
 fn chain_digits_under(row: Row, value: &[u8], digits: &mut [u32]) -> Answer
@@ -18,9 +31,7 @@ fn chain_digits_under(row: Row, value: &[u8], digits: &mut [u32]) -> Answer
     ensures { λ r. ⌜ DigitsRead (some (ruledRow row)) (now (value .entry)) (now (digits .entry)) r
         (now (digits .exit)) ⌝ }
 {
-    let n = row.n;
-    let room = digits.len() == 2 * n + 3;
-    let answer = first_failed(value.len() == n, true, room, true);
+    let answer = digits_answer(row, value.len(), digits.len());
     if number_of(answer) == 0 {
         digits::chain_digits(value, digits);
         return Answer::Done;

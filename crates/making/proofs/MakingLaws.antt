@@ -1,21 +1,19 @@
 -- What key making promises, from what its tests and its work gave, on plain values.
 -- Assumes nothing.
 use mathlib.Core.Path.{_≡_, refl, sym, _∙_}
-use mathlib.Core.Bool.{true, _&&_}
 use mathlib.Core.Option.{Option, some, none}
 use Prim.Native.Nat.{ℕ}
-use lib.Dec.{eqb}
 use lib.ListN.{length}
-use borrow.Author.Tests.{eqb-true}
 use Rattle.rules.specs.Places.{Bytes}
 use Rattle.rules.specs.Sets.{Row}
 use Rattle.rules.specs.Keys.{publicKey, secretKey}
 use Rattle.calls.specs.Hashes.{familyFor}
-use Rattle.answers.specs.Answers.{number, smallest, settled}
-use Rattle.making.specs.Keys.{KeysMade, keysAnswer}
+use Rattle.answers.specs.Answers.{number, settled}
+use Rattle.answers.specs.Lines.{first}
+use Rattle.making.specs.Keys.{keysLines, keysAnswer, KeysMade}
 use Rattle.answers.specs.declared.Answer.{Answer}
 use Rattle.answers.specs.declared.Answer.the-variants.{Done, UnknownSet}
-use Rattle.answers.proofs.TestLaws.{passed, both-pass}
+use Rattle.answers.proofs.LineLaws.{zero-given}
 use Rattle.answers.proofs.AnswerLaws.{settled-made, settled-kept}
 
 -- A promise under a row is the promise under the same row by another name.
@@ -27,7 +25,7 @@ module _ {row other : Option Row} (e : row ≡ other) where
 
 module _ (s p q public secret : Bytes) where
   pub keys-unknown : KeysMade none s p q public secret UnknownSet public secret
-  unfolding smallest settled
+  unfolding first settled
   keys-unknown = record { answered = refl; public-is = refl; secret-is = refl }
 
   module _ (r : Row) where
@@ -58,15 +56,13 @@ module _ (s p q public secret : Bytes) where
 
     pub keys-long : keysAnswer (some r) s p q public secret ≡ 0 → KeysLong
     keys-long z =
-        let t = passed (eqb (length s) (r .n) && (eqb (length p) (r .n) && eqb (length q) (r .n))) true
-        (eqb (length public) (r .publicBytes) && eqb (length secret) (r .secretBytes)) true z in
-        let seeds = both-pass (eqb (length s) (r .n)) _ (t .lengths-pass) in
-        let more = both-pass (eqb (length p) (r .n)) _ (seeds .1) in
-        let room = both-pass (eqb (length public) (r .publicBytes)) _ (t .room-passes) in
+        let none-applies = zero-given (keysLines (some r) (length s) (length p) (length q) (length public)
+        (length secret)) refl .0 z in
+        let lengths = none-applies .1 in
         record {
-          s-long = eqb-true _ _ (seeds .0);
-          p-long = eqb-true _ _ (more .0);
-          q-long = eqb-true _ _ (more .1);
-          public-long = eqb-true _ _ (room .0);
-          secret-long = eqb-true _ _ (room .1);
+          s-long = lengths .0 r refl;
+          p-long = lengths .1 .0 r refl;
+          q-long = lengths .1 .1 .0 r refl;
+          public-long = lengths .1 .1 .1 .0 r refl;
+          secret-long = lengths .1 .1 .1 .1 .0 r refl;
         }

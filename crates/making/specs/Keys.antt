@@ -1,33 +1,34 @@
--- Key making: its answer, and what both keys' buffers hold afterwards.
+-- Key making: its lines, its answer, and what both keys' buffers hold afterwards.
 -- Assumes nothing.
 use mathlib.Core.Path.{_≡_}
-use mathlib.Core.Bool.{false, _&&_}
+use mathlib.Core.List.{List, [], _∷_}
 use mathlib.Core.Option.{Option}
 use Prim.Native.Nat.{ℕ}
-use lib.Dec.{eqb}
 use lib.ListN.{length}
 use Rattle.rules.specs.Places.{Bytes}
 use Rattle.rules.specs.Sets.{Row}
 use Rattle.rules.specs.Keys.{publicKey, secretKey}
 use Rattle.calls.specs.Hashes.{familyFor}
-use Rattle.answers.specs.Answers.{number, Refusals, smallest, missing, fails, settled}
+use Rattle.answers.specs.Answers.{number, settled}
+use Rattle.answers.specs.Tests.{equal, known, under}
+use Rattle.answers.specs.Lines.{Line, line, first}
 use Rattle.answers.specs.declared.Answer.{Answer}
 
--- Under the row of the set, if it has one: three seeds, and both buffers as they were lent.
-module _ (row : Option Row) (skSeed skPrf pkSeed public secret : Bytes) where
-  abbrev pub keysRefusals : Refusals
-  keysRefusals = record {
-    unknown-set = missing row;
-    wrong-length = fails row
-        (λ r. eqb (length skSeed) (r .n) && (eqb (length skPrf) (r .n) && eqb (length pkSeed) (r .n)));
-    long-message = false;
-    wrong-room = fails row (λ r. eqb (length public) (r .publicBytes) && eqb (length secret) (r .secretBytes));
-    other-root = false;
-    no-part = false;
-  }
+-- Under the row of the set, if it has one: how many bytes three seeds and both buffers have.
+abbrev pub keysLines : Option Row → (skSeed skPrf pkSeed public secret : ℕ) → List Line
+keysLines row skSeed skPrf pkSeed public secret =
+    line 1 (known row)
+    ∷ line 2 (under row (λ r. equal skSeed (r .n)))
+    ∷ line 2 (under row (λ r. equal skPrf (r .n)))
+    ∷ line 2 (under row (λ r. equal pkSeed (r .n)))
+    ∷ line 4 (under row (λ r. equal public (r .publicBytes)))
+    ∷ line 4 (under row (λ r. equal secret (r .secretBytes)))
+    ∷ []
 
+-- Three seeds, and both buffers as they were lent.
+module _ (row : Option Row) (skSeed skPrf pkSeed public secret : Bytes) where
   abbrev pub keysAnswer : ℕ
-  keysAnswer = smallest keysRefusals
+  keysAnswer = first (keysLines row (length skSeed) (length skPrf) (length pkSeed) (length public) (length secret))
 
   pub record KeysMade (answer : Answer) (public-after secret-after : Bytes) : Type 0 where
     pub answered : number answer ≡ keysAnswer

@@ -1,30 +1,32 @@
 // Key making.
 ghost use mathlib.Core.Path.{_≡_};
-ghost use mathlib.Core.Bool.{true, _&&_};
 ghost use mathlib.Core.Option.{some};
-ghost use lib.Dec.{eqb};
 ghost use Rattle.rules.specs.Sets.{rowOf};
 ghost use Rattle.rows.specs.Rows.{ruledRow};
 ghost use Rattle.rows.specs.Ready.{Ready};
-ghost use Rattle.answers.specs.Answers.{number, smallest, tested};
-ghost use Rattle.making.specs.Keys.{KeysMade};
+ghost use Rattle.answers.specs.Answers.{number};
+ghost use Rattle.answers.specs.Lines.{first};
+ghost use Rattle.making.specs.Keys.{keysLines, KeysMade};
 use answers::Answer;
-use answers::both;
-use answers::first_failed;
 use answers::number_of;
+use answers::unless;
 use keys::keys_in;
 use rows::Found;
 use rows::Row;
 use rows::find_row;
 
-// The tests of the lengths.
+// The lines under a known set, from the last to the first.
 fn keys_answer(row: Row, sk: usize, prf: usize, pk: usize, public: usize, secret: usize) -> Answer
-    ensures { λ r. ⌜ number r ≡ smallest (tested (eqb sk (row .n) && (eqb prf (row .n) && eqb pk (row .n))) true
-        (eqb public (row .public) && eqb secret (row .secret)) true) ⌝ }
+    ensures { λ r. ⌜ number r ≡ first (keysLines (some (ruledRow row)) sk prf pk public secret) ⌝ }
 {
-    let seeds = both(sk == row.n, both(prf == row.n, pk == row.n));
-    let room = both(public == row.public, secret == row.secret);
-    first_failed(seeds, true, room, true)
+    let n = row.n;
+    let public_room = public == row.public;
+    let secret_room = secret == row.secret;
+    let last = unless(secret_room, Answer::SealLength, Answer::Done);
+    let four = unless(public_room, Answer::SealLength, last);
+    let third = unless(pk == n, Answer::InputLength, four);
+    let second = unless(prf == n, Answer::InputLength, third);
+    unless(sk == n, Answer::InputLength, second)
 }
 
 // Under a known set.

@@ -1,24 +1,22 @@
 -- What part reading promises, from what its tests gave, on plain values.
 -- Assumes nothing.
 use mathlib.Core.Path.{_≡_, refl, sym, ap, ap₂, _∙_}
-use mathlib.Core.Bool.{true}
 use mathlib.Core.List.{[]}
 use mathlib.Core.Option.{Option, some, none}
 use Prim.Native.Nat.{ℕ, suc, _+_, _-_, _*_, _≤_}
 use native.Mathlib.Nat.{mul-le-mul}
 use native.Mathlib.Omega.{arith}
-use lib.Dec.{eqb, leb}
 use lib.ListN.{length, take, drop}
-use borrow.Author.Tests.{eqb-true, leb-true}
 use Rattle.lists.proofs.Lent.{lent}
 use Rattle.rules.specs.Places.{Bytes}
 use Rattle.rules.specs.Layers.{layerBytes}
 use Rattle.rules.specs.Forest.{forestBytes}
 use Rattle.rules.specs.Sets.{Row}
 use Rattle.rules.specs.Seal.{part, partStart, partLength}
-use Rattle.answers.specs.Answers.{smallest, settled}
-use Rattle.part_reading.specs.Parts.{partAnswer, partGiven, startGiven, lengthGiven}
-use Rattle.answers.proofs.TestLaws.{passed}
+use Rattle.answers.specs.Answers.{settled}
+use Rattle.answers.specs.Lines.{first}
+use Rattle.part_reading.specs.Parts.{partLines, partAnswer, partGiven, startGiven, lengthGiven}
+use Rattle.answers.proofs.LineLaws.{zero-given}
 use Rattle.answers.proofs.AnswerLaws.{settled-made, settled-kept}
 
 -- A promise under a row is the promise under the same row by another name.
@@ -36,11 +34,11 @@ module _ {row other : Option Row} (e : row ≡ other) where
 
 module _ (seal : Bytes) (k : ℕ) where
   pub part-unknown : (1 ≡ partAnswer none seal k) × ([] ≡ partGiven none seal k)
-  unfolding smallest settled
+  unfolding first settled
   part-unknown = (refl, refl)
 
   pub extent-unknown : (0 ≡ startGiven none seal k) × (0 ≡ lengthGiven none seal k)
-  unfolding smallest settled
+  unfolding first settled
   extent-unknown = (refl, refl)
 
   module _ (r : Row) where
@@ -70,8 +68,8 @@ module _ (seal : Bytes) (k : ℕ) where
 
     pub part-there : partAnswer (some r) seal k ≡ 0 → (length seal ≡ r .sealBytes) × (k ≤ r .d + 1)
     part-there z =
-        let t = passed true true (eqb (length seal) (r .sealBytes)) (leb k (r .d + 1)) z in
-        (eqb-true _ _ (t .room-passes), leb-true _ _ (t .part-passes))
+        let none-applies = zero-given (partLines (some r) (length seal) k) refl .0 z in
+        (none-applies .1 .0 r refl, none-applies .1 .1 .0 r refl)
 
 -- From part 2 on the parts are the layers'.
 later : (k : ℕ) → (k ≡ 0 → ⊥) → (k ≡ 1 → ⊥) → k ≡ suc (suc (k - 2))

@@ -1,31 +1,28 @@
--- Part reading: its answer, and the part.
+-- Part reading: its lines, its answer, and the part.
 -- Assumes nothing.
-use mathlib.Core.Path.{_≡_}
-use mathlib.Core.Bool.{false}
-use mathlib.Core.List.{[]}
+use mathlib.Core.List.{List, [], _∷_}
 use mathlib.Core.Option.{Option}
 use Prim.Native.Nat.{ℕ, _+_}
-use lib.Dec.{eqb, leb}
 use lib.ListN.{length}
 use Rattle.rules.specs.Places.{Bytes}
 use Rattle.rules.specs.Sets.{Row}
 use Rattle.rules.specs.Seal.{partStart, partLength, part}
-use Rattle.answers.specs.Answers.{Refusals, smallest, missing, fails, settled}
+use Rattle.answers.specs.Answers.{settled}
+use Rattle.answers.specs.Tests.{equal, within, known, under}
+use Rattle.answers.specs.Lines.{Line, line, first}
 
--- Under the row of the set, if it has one: a seal, and the part's number.
+-- Under the row of the set, if it has one: how many bytes a seal has, and the part's number.
+abbrev pub partLines : Option Row → (seal number : ℕ) → List Line
+partLines row seal number =
+    line 1 (known row)
+    ∷ line 4 (under row (λ r. equal seal (r .sealBytes)))
+    ∷ line 6 (under row (λ r. within number (r .d + 1)))
+    ∷ []
+
+-- A seal, and the part's number.
 module _ (row : Option Row) (seal : Bytes) (number : ℕ) where
-  abbrev pub partRefusals : Refusals
-  partRefusals = record {
-    unknown-set = missing row;
-    wrong-length = false;
-    long-message = false;
-    wrong-room = fails row (λ r. eqb (length seal) (r .sealBytes));
-    other-root = false;
-    no-part = fails row (λ r. leb number (r .d + 1));
-  }
-
   abbrev pub partAnswer : ℕ
-  partAnswer = smallest partRefusals
+  partAnswer = first (partLines row (length seal) number)
 
   -- Empty with every refusal.
   abbrev pub partGiven : Bytes

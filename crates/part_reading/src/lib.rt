@@ -1,9 +1,7 @@
 // Part reading: a part is handed out as it lies in the seal.
 ghost use mathlib.Core.Path.{_≡_};
-ghost use mathlib.Core.Bool.{true};
 ghost use mathlib.Core.Option.{some};
 ghost use Prim.Native.Nat.{_+_, _≤_};
-ghost use lib.Dec.{eqb, leb};
 ghost use lib.ListN.{length};
 ghost use Rattle.rules.specs.Sets.{rowOf};
 ghost use Rattle.rules.specs.Layers.{layerBytes};
@@ -14,8 +12,8 @@ ghost use Rattle.rows.specs.Ready.{Ready};
 ghost use Rattle.answers.specs.Answers.{number as numberOf};
 ghost use Rattle.part_reading.specs.Parts.{partAnswer, partGiven, startGiven, lengthGiven};
 use answers::Answer;
-use answers::first_failed;
 use answers::number_of;
+use answers::unless;
 use rows::Found;
 use rows::Row;
 use rows::find_row;
@@ -66,12 +64,15 @@ fn part_length(row: Row, number: u32) -> usize
     }
 }
 
-// The tests under a known set.
+// The lines under a known set, from the last to the first.
 fn part_answer_under(row: Row, seal: &[u8], number: u32) -> Answer
     requires { ⌜ Ready (ruledRow row) ⌝ }
     ensures { λ r. ⌜ numberOf r ≡ partAnswer (some (ruledRow row)) (now (seal .entry)) number ⌝ }
 {
-    first_failed(true, true, seal.len() == row.seal, number <= row.d + 1)
+    let whole = seal.len() == row.seal;
+    let there = number <= row.d + 1;
+    let six = unless(there, Answer::UnknownPart, Answer::Done);
+    unless(whole, Answer::SealLength, six)
 }
 
 // The part under a known set.

@@ -1,21 +1,19 @@
 -- What sealing promises, from what its tests and its work gave, on plain values.
 -- Assumes nothing.
 use mathlib.Core.Path.{_≡_, refl, sym, _∙_}
-use mathlib.Core.Bool.{true, _&&_, _||_}
 use mathlib.Core.Option.{Option, some, none}
 use Prim.Native.Nat.{ℕ}
-use lib.Dec.{eqb}
 use lib.ListN.{length}
-use borrow.Author.Tests.{eqb-true}
 use Rattle.rules.specs.Places.{Bytes}
 use Rattle.rules.specs.Sets.{Row}
 use Rattle.rules.specs.Seal.{frame, sealOf}
 use Rattle.calls.specs.Hashes.{familyFor}
-use Rattle.answers.specs.Answers.{number, smallest, settled, messageFits}
-use Rattle.sealing.specs.Seals.{Sealed, sealAnswer}
+use Rattle.answers.specs.Answers.{number, settled}
+use Rattle.answers.specs.Lines.{first}
+use Rattle.sealing.specs.Seals.{sealLines, sealAnswer, Sealed}
 use Rattle.answers.specs.declared.Answer.{Answer}
 use Rattle.answers.specs.declared.Answer.the-variants.{Done, UnknownSet}
-use Rattle.answers.proofs.TestLaws.{passed, both-pass}
+use Rattle.answers.proofs.LineLaws.{zero-given}
 use Rattle.answers.proofs.AnswerLaws.{settled-made, settled-kept}
 
 -- A promise under a row is the promise under the same row by another name.
@@ -26,7 +24,7 @@ module _ {row other : Option Row} (e : row ≡ other) where
 
 module _ (secret message random out : Bytes) where
   pub seal-unknown : Sealed none secret message random out UnknownSet out
-  unfolding smallest settled
+  unfolding first settled
   seal-unknown = record { answered = refl; out-is = refl }
 
   module _ (r : Row) where
@@ -49,8 +47,6 @@ module _ (secret message random out : Bytes) where
     pub seal-long : sealAnswer (some r) secret message random out ≡ 0
         → (length secret ≡ r .secretBytes) × (length out ≡ r .sealBytes)
     seal-long z =
-        let t = passed (eqb (length secret) (r .secretBytes) && (eqb (length random) 0 || eqb (length random) (r .n)))
-        (messageFits (length message)) (eqb (length out) (r .sealBytes)) true z in (
-          eqb-true _ _ (both-pass (eqb (length secret) (r .secretBytes)) _ (t .lengths-pass) .0),
-          eqb-true _ _ (t .room-passes),
-        )
+        let none-applies = zero-given (sealLines (some r) (length secret) (length message) (length random)
+        (length out)) refl .0 z in
+        (none-applies .1 .0 r refl, none-applies .1 .1 .1 .1 .0 r refl)

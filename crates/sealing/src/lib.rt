@@ -1,32 +1,33 @@
 // Sealing.
 ghost use mathlib.Core.Path.{_≡_};
-ghost use mathlib.Core.Bool.{true, _&&_, _||_};
 ghost use mathlib.Core.Option.{some};
-ghost use lib.Dec.{eqb};
 ghost use Rattle.rules.specs.Sets.{rowOf};
 ghost use Rattle.rows.specs.Rows.{ruledRow};
 ghost use Rattle.rows.specs.Ready.{Ready};
-ghost use Rattle.answers.specs.Answers.{number, smallest, tested, messageFits};
-ghost use Rattle.sealing.specs.Seals.{Sealed};
+ghost use Rattle.answers.specs.Answers.{number};
+ghost use Rattle.answers.specs.Lines.{first};
+ghost use Rattle.sealing.specs.Seals.{sealLines, Sealed};
 use answers::Answer;
-use answers::both;
 use answers::either;
-use answers::first_failed;
-use answers::message_fits;
 use answers::number_of;
+use answers::unless;
 use rows::Found;
 use rows::Row;
 use rows::find_row;
 use seals::seal_in;
 
-// The tests of the lengths.
+// The lines under a known set, from the last to the first.
 fn seal_answer(row: Row, secret: usize, message: usize, random: usize, out: usize) -> Answer
-    ensures { λ r. ⌜ number r ≡ smallest (tested (eqb secret (row .secret) && (eqb random 0 || eqb random (row .n)))
-        (messageFits message) (eqb out (row .seal)) true) ⌝ }
+    ensures { λ r. ⌜ number r ≡ first (sealLines (some (ruledRow row)) secret message random out) ⌝ }
 {
-    let lengths = both(secret == row.secret, either(random == 0, random == row.n));
-    let fits = message_fits(message);
-    first_failed(lengths, fits, out == row.seal, true)
+    let key = secret == row.secret;
+    let room = out == row.seal;
+    let input = either(random == 0, random == row.n);
+    let fits = message <= 65536;
+    let four = unless(room, Answer::SealLength, Answer::Done);
+    let three = unless(fits, Answer::MessageLength, four);
+    let two = unless(input, Answer::InputLength, three);
+    unless(key, Answer::InputLength, two)
 }
 
 // Under a known set.

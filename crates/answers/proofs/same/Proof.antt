@@ -6,8 +6,8 @@ use mathlib.Core.Path.{_≡_, refl, ap, sym, _∙_}
 use Prim.Native.Nat.{ℕ, _≤_, _<_, _-_, _+_}
 use native.Mathlib.Omega.{arith}
 use lib.ListN.{length, drop}
-use Rattle.answers.specs.Answers.{same}
-use Rattle.answers.proofs.TestLaws.{same-long, same-turn, same-end}
+use Rattle.answers.specs.Tests.{same}
+use Rattle.answers.proofs.StringLaws.{same-long, same-turn, same-end}
 use borrow.Author.Needs.{needs}
 use Rattle.answers.proofs.same.Statement.{statement}
 use Rattle.answers.proofs.same.Tie as tie

@@ -1,17 +1,15 @@
 -- `check_under` walks where every test has passed, and compares the root that it comes to with the key's.
 -- Assumes nothing.
-use mathlib.Core.Path.{_≡_, sym, ap, ap₂, _∙_}
-use mathlib.Core.Option.{some}
-use Prim.Native.Nat.{_+_, _-_, _*_, _≤_}
+use mathlib.Core.Path.{_≡_, sym, ap₂, _∙_}
+use mathlib.Core.Bool.{cond}
+use Prim.Native.Nat.{_-_, _*_, _≤_}
 use native.Mathlib.Omega.{arith}
-use lib.ListN.{length, take, drop}
-use lib.Seq.{length-take-le}
+use lib.ListN.{length}
+use Rattle.rules.specs.Places.{Bytes}
 use Rattle.rows.specs.Rows.{ruledRow}
-use Rattle.rules.specs.Keys.{piece}
 use Rattle.rows.proofs.SizeLaws.{rest-piece}
-use Rattle.checking.specs.Checks.{recomputed}
-use Rattle.answers.specs.Answers.{same}
-use Rattle.checking.proofs.CheckingLaws.{check-refused, check-done, check-other, check-long}
+use Rattle.answers.specs.Tests.{same}
+use Rattle.checking.proofs.CheckingLaws.{check-refused, check-walked, check-long}
 use borrow.Author.Needs.{needs}
 use Rattle.checking.proofs.check_under.Statement.{statement}
 use Rattle.checking.proofs.check_under.Tie as tie
@@ -41,50 +39,29 @@ two : (c : tie.Else1)
     length (a .public .now) ≡ 2 * a .row .n
 two c = long c .0 ∙ c .before .before .before .before .before .before .pre .legal .public-long
 
-slice-aggregate-same : tie.Need-slice-aggregate-same
-slice-aggregate-same c =
-    let w = c .before .before in
-    let fit = w .before .before .before .before .before .before .before .pre .fit in
-    sym (length-take-le _ _ (omega (arith, w .checked-root .ensures .1 .1, fit .values)))
+sub-judged : tie.Need-sub-judged
+sub-judged c = omega (arith, two (c .before .before))
 
-sub-same : tie.Need-sub-same
-sub-same c = omega (arith, two (c .before .before .before))
+part-judged-start : tie.Need-part-judged-start
+part-judged-start c = omega (arith, two (c .before .before))
 
-part-same-start : tie.Need-part-same-start
-part-same-start c = omega (arith, two (c .before .before .before))
-
--- What was compared: the root that the check came to, and the key's.
-compared : (c : tie.After-same)
-    → let a = c .before .before .before .before .before .before .before .before .before .before .before .args in
-    c .same .result ≡ same (recomputed (some (ruledRow (a .row))) (a .public .now) (a .message .now) (a .seal .now)
-    (ruledRow (a .row)) .result) (piece (a .row .n) 1 (a .public .now))
-compared c =
-    let e = c .before .before .before .before .before in
-    let a = e .before .before .before .before .before .before .args in
-    c .same .ensures
-    ∙ ap₂ same (c .before .before .before .before .checked-root .ensures .0)
-    (rest-piece (a .row .n) (a .public .now) (two e))
+judged-requires : tie.Need-judged-requires
+judged-requires c κs = c .before .before .before .before .before .before .before .before .before .pre .fit .values
 
 returns-2 : tie.Need-returns-2
 returns-2 c =
-    let e = c .before .before .before .before .before .before in
+    let w = c .before .before .before in
+    let e = w .before in
     let a = e .before .before .before .before .before .before .args in
-    check-done (a .public .now) (a .message .now) (a .seal .now) (ruledRow (a .row))
+    let verdict = c .judged .ensures in
+    check-walked (a .public .now) (a .message .now) (a .seal .now) (ruledRow (a .row))
     (sym (e .before .before .check-answer .ensures) ∙ sym (e .before .number-of .ensures) ∙ e .if1 .left)
-    (sym (compared (c .before)) ∙ c .if2 .taken)
-    (c .before .before .before .before .before .checked-root .ensures .1 .0)
-
-returns-3 : tie.Need-returns-3
-returns-3 c =
-    let e = c .before .before .before .before .before .before in
-    let a = e .before .before .before .before .before .before .args in
-    check-other (a .public .now) (a .message .now) (a .seal .now) (ruledRow (a .row))
-    (sym (e .before .before .check-answer .ensures) ∙ sym (e .before .number-of .ensures) ∙ e .if1 .left)
-    (sym (compared (c .before)) ∙ c .if2 .left) (c .before .before .before .before .before .checked-root .ensures .1 .0)
+    (verdict .0 ∙ ap₂ (λ (x y : Bytes). cond (same x y) 0 5) (w .checked-root .ensures .0)
+    (rest-piece (a .row .n) (a .public .now) (two e)))
+    (verdict .1 ∙ w .checked-root .ensures .1 .0)
 
 pub check-under-spec : {M : Type 1} → statement M
 check-under-spec =
     tie.close
-    (tie.spec (λ c κs. search needs) (λ c κs. search needs) returns checked-root-requires (λ c. search needs)
-    slice-aggregate-same sub-same part-same-start (λ c. search needs) (λ c κs. search needs)
-    returns-2 returns-3)
+    (tie.spec (λ c κs. search needs) (λ c κs. search needs) returns checked-root-requires
+    sub-judged part-judged-start (λ c. search needs) judged-requires returns-2)

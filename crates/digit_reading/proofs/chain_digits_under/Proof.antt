@@ -12,7 +12,7 @@ chain-digits-requires : tie.Need-chain-digits-requires
 chain-digits-requires c κs =
     let s = c .before .before .before .before .before .before in
     let a = s .args in
-    let z = sym (c .before .before .before .first-failed .ensures) ∙ sym (c .before .before .number-of .ensures) ∙
+    let z = sym (c .before .before .before .digits-answer .ensures) ∙ sym (c .before .before .number-of .ensures) ∙
     c .before .if1 .taken in
     let l = digits-long (a .value .now) (a .digits .now) (ruledRow (a .row)) z in
     (rw (l .0) (s .pre .legal .checksum-fits), rw (l .0) (l .1))
@@ -20,18 +20,18 @@ chain-digits-requires c κs =
 returns : tie.Need-returns
 returns c =
     let a = c .before .before .before .before .before .before .before .before .before .args in
-    let z = sym (c .before .before .before .before .before .before .first-failed .ensures) ∙ sym
+    let z = sym (c .before .before .before .before .before .before .digits-answer .ensures) ∙ sym
     (c .before .before .before .before .before .number-of .ensures) ∙ c .before .before .before .before .if1 .taken in
     digits-done (a .value .now) (a .digits .now) (ruledRow (a .row)) z (c .before .before .chain-digits .ensures)
 
 returns-2 : tie.Need-returns-2
 returns-2 c =
     let a = c .before .before .before .before .before .args in
-    let e = c .before .before .first-failed .ensures in
+    let e = c .before .before .digits-answer .ensures in
     digits-refused (a .value .now) (a .digits .now) (ruledRow (a .row)) e
     (λ z. c .if1 .left (c .before .number-of .ensures ∙ e ∙ z))
 
 pub chain-digits-under-spec : {M : Type 1} → statement M
 chain-digits-under-spec =
-    tie.close (tie.spec (λ c. search needs) (λ c. search needs) (λ c κs. search needs) (λ c κs. search needs)
+    tie.close (tie.spec (λ c κs. search needs) (λ c κs. search needs)
     chain-digits-requires (λ c. search needs) returns returns-2)
