@@ -5,7 +5,7 @@ mod common;
 
 use common::fenced::Fenced;
 use common::paper::{answer, row, Wrong, CHAINS, MESSAGE_LIMIT, SETS};
-use common::Random;
+use common::{emulated, Random};
 use skimdral::face;
 
 /// Around the lengths of seeds, values and randomizer inputs.
@@ -131,7 +131,7 @@ fn seal_case(set: u32, secret: &Buffer, message: &Buffer, hedge: &Buffer, seal: 
 fn legal_seals_between_fences() {
     let random = &mut Random::of_test(33);
     let cases = [(2, 0, 0), (2, 1, 16), (2, 87, 0), (2, 103, 16), (2, 1000, 16), (2, MESSAGE_LIMIT, 0), (1, 300, 16)];
-    for (set, message, hedge) in cases {
+    for (set, message, hedge) in cases.into_iter().filter(|case| case.0 == 2 || !emulated()) {
         let row = row(set).expect("a set");
         let [secret, message, hedge] = [row.secret_key, message, hedge].map(|length| buffer(random, length));
         let mut seal = buffer(random, row.seal);

@@ -53,12 +53,19 @@ pub fn soak() -> usize {
     }
 }
 
-/// Of how many drawn cases one is compared: of 1, and of 10 where an emulator runs the library. Stored cases and
+/// Whether an emulator runs the library. It takes a minute and more for a sealing under set 1, so there only the stored
+/// cases seal under it.
+pub fn emulated() -> bool {
+    std::env::var_os("SKIMDRAL_EMULATOR").is_some()
+}
+
+/// Of how many drawn cases one is compared: of 1, and where an emulator runs the library of 10. Stored cases and
 /// refusals are all compared there too.
 pub fn thin() -> usize {
-    match std::env::var_os("SKIMDRAL_EMULATOR") {
-        Some(_) => 10,
-        None => 1,
+    if emulated() {
+        10
+    } else {
+        1
     }
 }
 
