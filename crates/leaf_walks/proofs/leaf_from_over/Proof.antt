@@ -43,7 +43,7 @@ returns c =
     let calls =
     from-calls w (a .spot .layer) (a .spot .tree) (a .spot .pair) (a .sig .now) (a .m .now) _ ds
     (walked .walk-in .ensures .1) in
-    (value, (calls, search needs))
+    record { value-is = value; counted = calls; value-long = search needs }
 
 pub leaf-from-over-spec : {M : Type 1} → statement M
 leaf-from-over-spec =
