@@ -30,12 +30,12 @@ module _ (w : Hashes) (t p a : ℕ) where
       (f ∙ ap₂ (λ x y. w .hash F x y) e (front (w .n) part)) (rest-read (w .n) part)
 
   -- It makes one F call: the climb makes none.
-  pub tree-calls : (i : ℕ) (part : Bytes) → 1 ≡ count (of F) (treeRun w t p a i part .calls)
+  pub tree-calls : (i : ℕ) (part : Bytes) {calls : ℕ} → calls ≡ count (of F) (treeRun w t p a i part .calls)
+      → calls ≡ 1
   unfolding is count
-  tree-calls i part =
+  tree-calls i part e =
       let leaf : Bytes = w .hash F (address (forestNode t p 0 i)) (take (w .n) part) in
-      let none = climb-count w (of F) (forestNode t p) a 0 i leaf (drop (w .n) part) in
-      omega (arith, none)
+      omega (arith, e, climb-count w (of F) (forestNode t p) a 0 i leaf (drop (w .n) part))
 
   -- Tree j's root is worked out from the first bytes that are left.
   first-root : (i : ℕ) (X : Bytes) → treeRun w t p a i (take (w .n + a * w .n) X) .result

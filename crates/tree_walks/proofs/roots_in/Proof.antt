@@ -14,6 +14,8 @@ use Rattle.lists.proofs.Lent.{lent}
 use Rattle.lists.proofs.Filling.{lent-length}
 use Rattle.rules.specs.Forest.{forestWalk}
 use Rattle.calls.specs.Hashes.{hashesOf}
+use Rattle.climbs.specs.Leads.{Leads}
+use Rattle.climbs.proofs.LeadLaws.{leads-by}
 use Rattle.tree_walks.specs.Tree.{treeRun}
 use Rattle.tree_walks.proofs.TreeLaws.{tree-calls, roots-turn, roots-end, roots-calls}
 use Rattle.rows.proofs.SizeLaws.{small-product}
@@ -67,6 +69,28 @@ digit : (c : tie.In-loop Inv-loop μ-loop) → let a = c .before .before .before
     getD (a .ds .now) (c .before .loop .j) 0 < a .size
 digit c = c .before .before .before .before .before .before .pre .0 .3 (c .before .loop .j)
 
+-- What a turn learnt of the tree it went through.
+tree : (c : tie.After-tree-root Inv-loop μ-loop) → let turn = c .before .before .before in
+    let a = turn .before .before .before .before .before .before .args in
+    let l = turn .before .loop in
+    Leads (a .kit .n) (treeRun (hashesOf (a .kit) (a .seed .now)) (a .tree) (a .pair) (a .a)
+    (l .base + getD (a .ds .now) (l .j) 0) (take (a .kit .n + a .a * a .kit .n) (drop (l .at) (a .sig .now))))
+    (c .tree-root .result)
+tree c =
+    let turn = c .before .before .before in
+    let a = turn .before .before .before .before .before .before .args in
+    let l = turn .before .loop in
+    leads-by (ap (treeRun (hashesOf (a .kit) (a .seed .now)) (a .tree) (a .pair) (a .a)
+    (l .base + getD (a .ds .now) (l .j) 0)) (lent (l .at) (a .kit .n + a .a * a .kit .n) (a .sig .now)))
+    (c .tree-root .ensures)
+
+-- It makes one call.
+made : (c : tie.After-tree-root Inv-loop μ-loop) → c .tree-root .result .calls ≡ 1
+made c =
+    let turn = c .before .before .before in
+    let a = turn .before .before .before .before .before .before .args in
+    tree-calls (hashesOf (a .kit) (a .seed .now)) (a .tree) (a .pair) (a .a) _ _ (tree c .counted)
+
 mul-step : tie.Need-mul-step Inv-loop μ-loop
 mul-step c =
     let s = c .before .before .before .before in
@@ -109,26 +133,14 @@ part-put-end : tie.Need-part-put-end Inv-loop μ-loop
 part-put-end c =
     let rooted = c .before .before .before in
     let s = rooted .before .before .before .before .before .before .before .before .before in
-    omega (arith, rooted .tree-root .ensures .value-long, s .pre .0 .0)
-
--- A turn makes one call.
-made : (c : tie.After-slice-known2 Inv-loop μ-loop)
-    → c .before .before .before .before .before .before .before .tree-root .result .calls ≡ 1
-made c =
-    let rooted = c .before .before .before .before .before .before .before in
-    let turn = rooted .before .before .before in
-    let l = turn .before .loop in
-    let a = turn .before .before .before .before .before .before .args in
-    let step = a .kit .n + a .a * a .kit .n in
-    rooted .tree-root .ensures .counted
-    ∙ sym (tree-calls (hashesOf (a .kit) (a .seed .now)) (a .tree) (a .pair) (a .a)
-    (l .base + getD (a .ds .now) (l .j) 0) (take (l .at + step - l .at) (drop (l .at) (a .sig .now))))
+    omega (arith, tree rooted .value-long, s .pre .0 .0)
 
 add-calls : tie.Need-add-calls Inv-loop μ-loop
 add-calls c =
-    let turn = c .before .before .before .before .before .before .before .before .before .before in
+    let rooted = c .before .before .before .before .before .before .before in
+    let turn = rooted .before .before .before in
     let s = turn .before .before .before .before .before .before in
-    omega (arith, made c, turn .before .loop .inv .6, s .pre .1 .2)
+    omega (arith, made rooted, turn .before .loop .inv .6, s .pre .1 .2)
 
 add-base : tie.Need-add-base Inv-loop μ-loop
 add-base c =
@@ -150,12 +162,9 @@ loop-again c =
     let i = l .base + getD (a .ds .now) (l .j) 0 in
     let front : take (n - 0) v ≡ take n v = ap (λ k. take k v) (sub-zero n) in
     let long : length (take (n - 0) v) ≡ n = ap length front ∙ length-take-le n v
-    (omega (arith, s .pre .0 .0, rooted .tree-root .ensures .value-long)) in
+    (omega (arith, s .pre .0 .0, tree rooted .value-long)) in
     let leaf : i ≡ l .j * 2 ^ a .a + getD (a .ds .now) (l .j) 0 =
-    ap (λ x. x + getD (a .ds .now) (l .j) 0) (l .inv .1 ∙ ap (λ x. l .j * x) (s .pre .0 .1)) in
-    let root =
-    front ∙ rooted .tree-root .ensures .value-is
-    ∙ ap (λ x. treeRun w (a .tree) (a .pair) (a .a) i x .result) (lent (l .at) step (a .sig .now)) in (
+    ap (λ x. x + getD (a .ds .now) (l .j) 0) (l .inv .1 ∙ ap (λ x. l .j * x) (s .pre .0 .1)) in (
       omega arith,
       omega (arith, l .inv .1),
       omega (arith, l .inv .2),
@@ -164,8 +173,8 @@ loop-again c =
       ap (λ x. x ++ forestWalk w (a .tree) (a .pair) (a .a) (l .j + 1) (drop (l .j + 1) (a .ds .now))
           (drop (l .at + step) (a .sig .now)) .result) (put .ensures .front)
           ∙ roots-turn w (a .tree) (a .pair) (a .a) (a .ds .now) (l .j) i (l .at) (a .sig .now) (take (l .o) (l .out))
-          (take (n - 0) v) (turn .loop-test .taken) leaf root (l .inv .5),
-      omega (arith, made c, l .inv .6),
+          (take (n - 0) v) (turn .loop-test .taken) leaf (front ∙ tree rooted .value-is) (l .inv .5),
+      omega (arith, made rooted, l .inv .6),
     )
 
 returns : tie.Need-returns Inv-loop μ-loop

@@ -1,5 +1,6 @@
 -- `tree_root` climbs from F of the secret value along the path, and that F is its one call.
 -- Assumes nothing.
+use mathlib.Core.Path.{refl, sym}
 use borrow.Author.Needs.{needs}
 use Rattle.calls.specs.Hashes.{hashesOf}
 use Rattle.tree_walks.proofs.TreeLaws.{tree-made, tree-calls}
@@ -14,7 +15,7 @@ returns c =
     record {
       value-is = tree-made w (a .tree) (a .pair) (a .a) (a .i) (a .part .now)
           (c .before .before .before .before .address-at .ensures) (c .before .before .f .ensures) (c .climb .ensures);
-      counted = tree-calls w (a .tree) (a .pair) (a .a) (a .i) (a .part .now);
+      counted = sym (tree-calls w (a .tree) (a .pair) (a .a) (a .i) (a .part .now) refl);
       value-long = search needs;
     }
 
