@@ -45,7 +45,7 @@ slice-aggregate-same : tie.Need-slice-aggregate-same
 slice-aggregate-same c =
     let w = c .before .before in
     let fit = w .before .before .before .before .before .before .before .pre .fit in
-    sym (length-take-le _ _ (omega (arith, w .checked-root .ensures .1 .1, fit .values)))
+    sym (length-take-le _ _ (omega (arith, w .checked-root .ensures .value-long, fit .values)))
 
 sub-same : tie.Need-sub-same
 sub-same c = omega (arith, two (c .before .before .before))
@@ -62,7 +62,7 @@ compared c =
     let e = c .before .before .before .before .before in
     let a = e .before .before .before .before .before .before .args in
     c .same .ensures
-    ∙ ap₂ same (c .before .before .before .before .checked-root .ensures .0)
+    ∙ ap₂ same (c .before .before .before .before .checked-root .ensures .value-is)
     (rest-piece (a .row .n) (a .public .now) (two e))
 
 returns-2 : tie.Need-returns-2
@@ -72,7 +72,7 @@ returns-2 c =
     check-done (a .public .now) (a .message .now) (a .seal .now) (ruledRow (a .row))
     (sym (e .before .before .check-answer .ensures) ∙ sym (e .before .number-of .ensures) ∙ e .if1 .left)
     (sym (compared (c .before)) ∙ c .if2 .taken)
-    (c .before .before .before .before .before .checked-root .ensures .1 .0)
+    (c .before .before .before .before .before .checked-root .ensures .counted)
 
 returns-3 : tie.Need-returns-3
 returns-3 c =
@@ -80,7 +80,8 @@ returns-3 c =
     let a = e .before .before .before .before .before .before .args in
     check-other (a .public .now) (a .message .now) (a .seal .now) (ruledRow (a .row))
     (sym (e .before .before .check-answer .ensures) ∙ sym (e .before .number-of .ensures) ∙ e .if1 .left)
-    (sym (compared (c .before)) ∙ c .if2 .left) (c .before .before .before .before .before .checked-root .ensures .1 .0)
+    (sym (compared (c .before)) ∙ c .if2 .left)
+    (c .before .before .before .before .before .checked-root .ensures .counted)
 
 pub check-under-spec : {M : Type 1} → statement M
 check-under-spec =
