@@ -3,9 +3,8 @@
 -- Assumes nothing.
 use mathlib.Core.Path.{_≡_, sym, _∙_}
 use mathlib.Core.List.{List}
-use Prim.Native.Nat.{ℕ, _+_}
+use Prim.Native.Nat.{ℕ}
 use native.Mathlib.Omega.{arith}
-use lib.ListN.{length}
 use Rattle.rules.specs.Places.{Bytes, forestRoots, address}
 use Rattle.rules.specs.Calls.{F, T, of, Hashes}
 use Rattle.rules.specs.Forest.{forestWalk, forestRoot}

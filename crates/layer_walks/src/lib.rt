@@ -1,6 +1,6 @@
 // The layers from their parts of a seal (FIPS 205, algorithms 11 and 13).
 ghost use mathlib.Core.Path.{_≡_};
-ghost use Prim.Native.Nat.{_+_, _-_, _*_, _^_, _≤_, _<_};
+ghost use Prim.Native.Nat.{_+_, _-_, _*_, _≤_};
 ghost use lib.ListN.{length, take};
 ghost use Rattle.rules.specs.Chains.{chains};
 ghost use Rattle.rules.specs.Layers.{layerRoot, layersRoot};

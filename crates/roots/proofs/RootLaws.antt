@@ -1,15 +1,14 @@
 -- The root that a seal leads to on plain values: the forest on its part of the seal, and the layers on theirs, are the
 -- rules' walk.
 -- Assumes nothing.
-use mathlib.Core.Path.{_≡_, refl, sym, ap, ap₂, _∙_}
-use mathlib.Core.List.{List, [], _∷_, _++_}
+use mathlib.Core.Path.{_≡_, sym, ap, ap₂, _∙_}
 use Prim.Native.Nat.{ℕ, suc, _+_, _-_, _*_, _^_, _≤_, _<_}
 use native.Mathlib.Omega.{arith}
 use lib.ListN.{length, take, drop, length-drop}
 use Rattle.lists.proofs.Lent.{lent}
 use Rattle.lists.proofs.Filling.{rest-read, lent-length}
 use Rattle.rules.specs.Places.{Bytes}
-use Rattle.rules.specs.Calls.{F, of, Family, Hashes, under, Run, _>>=_}
+use Rattle.rules.specs.Calls.{F, of, Family, under, Run, _>>=_}
 use Rattle.rules.specs.Layers.{layersRoot}
 use Rattle.rules.specs.Forest.{treeBytes, forestBytes, forestRoot}
 use Rattle.rules.specs.Sets.{Row}

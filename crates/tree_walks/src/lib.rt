@@ -19,15 +19,7 @@ use climbs::groves::Grove;
 use parts::put;
 
 // The root of a forest's tree, from its secret value and its path, at leaf i of all trees.
-fn tree_root(
-    kit: Kit,
-    seed: &[u8],
-    tree: u64,
-    pair: u32,
-    a: u32,
-    i: u32,
-    part: &[u8],
-) -> Walked
+fn tree_root(kit: Kit, seed: &[u8], tree: u64, pair: u32, a: u32, i: u32, part: &[u8]) -> Walked
     requires { ⌜ (kit .n ≤ 32) × (length (now part) ≡ kit .n + a * kit .n) ⌝ }
     ensures { λ r. ⌜ Leads (kit .n) (treeRun (hashesOf kit (now (seed .entry))) tree pair a i (now (part .entry))) r ⌝ }
 {

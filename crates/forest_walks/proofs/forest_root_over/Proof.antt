@@ -1,8 +1,5 @@
 -- `forest_root_over` compresses the roots that the trees' parts lead to.
 -- Assumes nothing.
-use Prim.Native.Nat.{_*_, _^_, _<_}
-use mathlib.Core.Path.{_≡_}
-use lib.ListN.{length}
 use borrow.Author.Needs.{needs}
 use Rattle.lists.proofs.Bits.{one-shifted}
 use Rattle.calls.specs.Hashes.{hashesOf}

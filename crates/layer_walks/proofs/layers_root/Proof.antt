@@ -2,7 +2,7 @@
 -- the calls.
 -- Assumes nothing.
 use mathlib.Core.Path.{_≡_, refl, sym, ap, ap₂, _∙_}
-use Prim.Native.Nat.{ℕ, suc, _+_, _-_, _*_, _/_, _%_, _^_, _≤_, _<_}
+use Prim.Native.Nat.{ℕ, suc, _+_, _-_, _*_, _^_, _≤_, _<_}
 use native.Mathlib.Nat.{sub-zero, mod-lt}
 use native.Mathlib.Numerals.{unary-clauses}
 use native.Mathlib.Omega.{arith}
@@ -20,7 +20,8 @@ use Rattle.calls.specs.Hashes.{hashesOf}
 use Rattle.rows.proofs.SizeLaws.{size-fits, small-product}
 use Rattle.climbs.specs.Leads.{Leads}
 use Rattle.climbs.proofs.LeadLaws.{leads-by}
-use Rattle.layer_walks.proofs.UpLaws.{upRun, up-result, up-calls, up-start, up-turn, up-turn-calls, up-end, up-most}
+use Rattle.layer_walks.proofs.UpLaws.{upRun, up-result, up-calls, up-start, up-end, up-most}
+use Rattle.layer_walks.proofs.UpLaws.{up-turn, up-turn-calls}
 use Rattle.layer_walks.proofs.layers_root.Statement.{statement}
 use Rattle.layer_walks.proofs.layers_root.Tie as tie
 

@@ -42,7 +42,8 @@ add-t30 c =
     let r = ruledRow (a .row) in
     record {
       fits = few-calls r (familyFor r) (a .seed .now) (at (a .pointed) (a .indices .now)) (a .seal .now) (s .pre .0 .0)
-          (s .pre .0 .1) (s .pre .1 .0) _ (low .forest-root .ensures .counted) (c .before .layers-root .ensures .counted);
+          (s .pre .0 .1) (s .pre .1 .0) _ (low .forest-root .ensures .counted)
+          (c .before .layers-root .ensures .counted);
     }
 
 returns : tie.Need-returns

@@ -1,7 +1,7 @@
--- `roots_in` writes the trees' roots one after the other: what is written and what is left to walk are the whole, and so
--- are the calls, one a tree.
+-- `roots_in` writes the trees' roots one after the other: what is written and what is left to walk are the whole, and
+-- so are the calls, one a tree.
 -- Assumes nothing.
-use mathlib.Core.Path.{_≡_, refl, sym, ap, _∙_}
+use mathlib.Core.Path.{_≡_, refl, ap, _∙_}
 use mathlib.Core.List.{_++_}
 use Prim.Native.Nat.{_+_, _-_, _*_, _^_, _≤_, _<_}
 use native.Mathlib.Nat.{sub-zero}
