@@ -1,13 +1,12 @@
 // The root that a seal leads to (FIPS 205, algorithm 20), under a row that is ready, with the F calls counted.
 ghost use mathlib.Core.Path.{_≡_};
-ghost use lib.ListN.{length, take};
-ghost use Rattle.rules.specs.Calls.{Kind, Function};
-ghost use Rattle.counts.specs.Counts.{count};
+ghost use lib.ListN.{length};
 ghost use Rattle.rules.specs.Seal.{frame};
 ghost use Rattle.rules.specs.Check.{checkedRoot};
 ghost use Rattle.rows.specs.Rows.{ruledRow};
 ghost use Rattle.rows.specs.Ready.{Ready};
 ghost use Rattle.calls.specs.Hashes.{familyFor};
+ghost use Rattle.climbs.specs.Leads.{Leads};
 use climbs::Walked;
 use points::aim;
 use roots::root_at;
@@ -23,11 +22,8 @@ fn checked_root_over(
 ) -> Walked
     requires { ⌜ Ready (ruledRow row) × (length (now public) ≡ row .public) × (length (now seal) ≡ row .seal)
         × (length (now indices) ≡ row .k) ⌝ }
-    ensures { λ r. ⌜ take (row .n) (r .value) ≡ checkedRoot (ruledRow row) (familyFor (ruledRow row))
-        (now (public .entry)) (frame (now (message .entry))) (now (seal .entry)) .result ⌝ }
-    ensures { λ r. ⌜ r .calls ≡ count (Kind.of Function.F) (checkedRoot (ruledRow row) (familyFor (ruledRow row))
-        (now (public .entry)) (frame (now (message .entry))) (now (seal .entry)) .calls) ⌝ }
-    ensures { λ r. ⌜ length (r .value) ≡ 32 ⌝ }
+    ensures { λ r. ⌜ Leads (row .n) (checkedRoot (ruledRow row) (familyFor (ruledRow row))
+        (now (public .entry)) (frame (now (message .entry))) (now (seal .entry))) r ⌝ }
 {
     let n = row.n;
     let pointed = aim(
@@ -44,11 +40,8 @@ fn checked_root_over(
 // The root that a seal of a message leads to under a public key.
 pub fn checked_root(row: Row, public: &[u8], message: &[u8], seal: &[u8]) -> Walked
     requires { ⌜ Ready (ruledRow row) × (length (now public) ≡ row .public) × (length (now seal) ≡ row .seal) ⌝ }
-    ensures { λ r. ⌜ take (row .n) (r .value) ≡ checkedRoot (ruledRow row) (familyFor (ruledRow row))
-        (now (public .entry)) (frame (now (message .entry))) (now (seal .entry)) .result ⌝ }
-    ensures { λ r. ⌜ r .calls ≡ count (Kind.of Function.F) (checkedRoot (ruledRow row) (familyFor (ruledRow row))
-        (now (public .entry)) (frame (now (message .entry))) (now (seal .entry)) .calls) ⌝ }
-    ensures { λ r. ⌜ length (r .value) ≡ 32 ⌝ }
+    ensures { λ r. ⌜ Leads (row .n) (checkedRoot (ruledRow row) (familyFor (ruledRow row))
+        (now (public .entry)) (frame (now (message .entry))) (now (seal .entry))) r ⌝ }
 {
     let k = row.k as usize;
     let mut indices = [0u32; 35];

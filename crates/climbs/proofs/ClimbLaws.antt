@@ -1,17 +1,16 @@
 -- The laws of a climb in code: a node and its sibling are joined by the parity of its index, and what is left of the
 -- climb from each height on comes to the same as the whole.
 -- Assumes nothing.
-use mathlib.Core.Path.{_≡_, refl, ap₂, _∙_}
+use mathlib.Core.Path.{_≡_, refl}
 use mathlib.Core.List.{_++_}
 use Prim.Native.Nat.{ℕ, zero, suc, _+_, _-_, _/_, _%_, _≤_, _<_}
 use native.Mathlib.Numerals.{add-one}
 use native.Mathlib.Omega.{arith}
-use lib.ListN.{length, take, drop}
+use lib.ListN.{take, drop}
 use lib.Seq.{drop-drop}
-use Rattle.lists.proofs.Lent.{lent, front}
-use Rattle.lists.proofs.Filling.{rest-read}
-use Rattle.rules.specs.Places.{Bytes, Place, forestNode, address}
-use Rattle.rules.specs.Calls.{F, H, Hashes}
+use Rattle.lists.proofs.Lent.{lent}
+use Rattle.rules.specs.Places.{Bytes, Place, address}
+use Rattle.rules.specs.Calls.{H, Hashes}
 use Rattle.rules.specs.Trees.{join, climb}
 
 -- Where the index is even the node stands first.
@@ -46,14 +45,3 @@ module _ (w : Hashes) (place : ℕ → ℕ → Place) (count z i : ℕ) where
   climb-end v auth h =
       let e : count - z ≡ 0 = omega arith in
       rw e
-
-module _ (w : Hashes) where
-  -- A tree of the forest: F of its secret value, and the climb.
-  pub tree-made : (t p a i n : ℕ) (part : Bytes) {at leaf root : Bytes} → at ≡ address (forestNode t p 0 i)
-      → leaf ≡ w .hash F at (take (n - 0) part)
-      → root ≡ climb w (forestNode t p) a 0 i leaf (take (length part - n) (drop n part)) .result
-      → root ≡ climb w (forestNode t p) a 0 i (w .hash F (address (forestNode t p 0 i)) (take n part)) (drop n part)
-      .result
-  tree-made t p a i n part e f g =
-      g ∙ ap₂ (λ v auth. climb w (forestNode t p) a 0 i v auth .result)
-      (f ∙ ap₂ (λ x y. w .hash F x y) e (front n part)) (rest-read n part)

@@ -1,2 +1,3 @@
 pub mod GroveLaws
 pub mod ClimbLaws
+pub mod LeadLaws

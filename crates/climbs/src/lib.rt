@@ -3,17 +3,15 @@ pub mod groves;
 
 ghost use mathlib.Core.Path.{_≡_};
 ghost use Prim.Native.Nat.{_+_, _*_, _/_, _%_, _^_, _≤_, _<_};
-ghost use lib.ListN.{length, take, drop};
-ghost use Rattle.rules.specs.Places.{address, forestNode};
+ghost use lib.ListN.{length, take};
+ghost use Rattle.rules.specs.Places.{address};
 ghost use Rattle.rules.specs.Calls.{Function};
 ghost use Rattle.rules.specs.Trees.{join, climb};
 ghost use Rattle.calls.specs.Hashes.{hashesOf};
 ghost use Rattle.climbs.specs.Groves.{placeOf};
 use crate::groves::Grove;
 use crate::groves::node_address;
-use addresses::address_at;
 use calls::Kit;
-use calls::f;
 use calls::h;
 
 // A value that a seal leads to, and the F calls on the way.
@@ -68,24 +66,4 @@ pub fn climb(
         z += 1;
     }
     v
-}
-
-// The root of a forest's tree, from its secret value and its path, at leaf i of all trees.
-pub fn tree_root(
-    kit: Kit,
-    seed: &[u8],
-    tree: u64,
-    pair: u32,
-    a: u32,
-    i: u32,
-    part: &[u8],
-) -> [u8; 32]
-    requires { ⌜ (kit .n ≤ 32) × (length (now part) ≡ kit .n + a * kit .n) ⌝ }
-    ensures { λ r. ⌜ take (kit .n) r ≡ climb (hashesOf kit (now (seed .entry))) (forestNode tree pair) a 0 i
-        (hashesOf kit (now (seed .entry)) .hash Function.F (address (forestNode tree pair 0 i))
-        (take (kit .n) (now (part .entry)))) (drop (kit .n) (now (part .entry))) .result ⌝ }
-{
-    let n = kit.n;
-    let leaf = f(kit, seed, address_at(3, 0, tree, pair, 0, i), &part[0..n]);
-    climb(kit, seed, Grove::Forest(tree, pair), a, i, leaf, &part[n..])
 }

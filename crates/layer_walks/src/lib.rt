@@ -1,12 +1,11 @@
 // The layers from their parts of a seal (FIPS 205, algorithms 11 and 13).
 ghost use mathlib.Core.Path.{_≡_};
-ghost use Prim.Native.Nat.{_+_, _-_, _*_, _^_, _≤_, _<_};
-ghost use lib.ListN.{length, take, drop};
-ghost use Rattle.rules.specs.Calls.{Kind, Function};
+ghost use Prim.Native.Nat.{_+_, _-_, _*_, _≤_};
+ghost use lib.ListN.{length, take};
 ghost use Rattle.rules.specs.Chains.{chains};
 ghost use Rattle.rules.specs.Layers.{layerRoot, layersRoot};
-ghost use Rattle.counts.specs.Counts.{count};
 ghost use Rattle.calls.specs.Hashes.{hashesOf};
+ghost use Rattle.climbs.specs.Leads.{Leads};
 ghost use Rattle.rows.specs.Shapes.{Stack};
 use calls::Kit;
 use chains::Spot;
@@ -28,11 +27,8 @@ pub fn layer_root(
 ) -> Walked
     requires { ⌜ (kit .n ≤ 32) × (length (now m) ≡ kit .n)
         × (length (now sig) ≡ chains (kit .n) * kit .n + hp * kit .n) ⌝ }
-    ensures { λ r. ⌜ take (kit .n) (r .value) ≡ layerRoot (hashesOf kit (now (seed .entry))) hp layer tree i
-        (now (sig .entry)) (now (m .entry)) .result ⌝ }
-    ensures { λ r. ⌜ r .calls ≡ count (Kind.of Function.F) (layerRoot (hashesOf kit (now (seed .entry))) hp layer tree i
-        (now (sig .entry)) (now (m .entry)) .calls) ⌝ }
-    ensures { λ r. ⌜ length (r .value) ≡ 32 ⌝ }
+    ensures { λ r. ⌜ Leads (kit .n) (layerRoot (hashesOf kit (now (seed .entry))) hp layer tree i
+        (now (sig .entry)) (now (m .entry))) r ⌝ }
 {
     let n = kit.n;
     let size = (2 * n + 3) * n;
@@ -73,11 +69,8 @@ pub fn layers_root(
     sig: &[u8],
 ) -> Walked
     requires { ⌜ Stack (kit .n) hp size d (length (now sig)) ⌝ }
-    ensures { λ r. ⌜ take (kit .n) (r .value) ≡ layersRoot (hashesOf kit (now (seed .entry))) hp (d - 1) 0 tree i
-        (take (kit .n) m) (now (sig .entry)) .result ⌝ }
-    ensures { λ r. ⌜ r .calls ≡ count (Kind.of Function.F) (layersRoot (hashesOf kit (now (seed .entry))) hp (d - 1) 0
-        tree i (take (kit .n) m) (now (sig .entry)) .calls) ⌝ }
-    ensures { λ r. ⌜ length (r .value) ≡ 32 ⌝ }
+    ensures { λ r. ⌜ Leads (kit .n) (layersRoot (hashesOf kit (now (seed .entry))) hp (d - 1) 0 tree i
+        (take (kit .n) m) (now (sig .entry))) r ⌝ }
 {
     let n = kit.n;
     let step = (2 * n + 3) * n + (hp as usize) * n;

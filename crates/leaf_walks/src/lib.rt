@@ -1,12 +1,13 @@
 // The leaf that a seal leads to (FIPS 205, algorithm 8), with the F calls counted.
 ghost use mathlib.Core.Path.{_≡_};
 ghost use Prim.Native.Nat.{_*_, _<_, _^_};
-ghost use lib.ListN.{length, take};
+ghost use lib.ListN.{length};
 ghost use Rattle.lists.specs.Below.{Below};
 ghost use Rattle.rules.specs.Calls.{Kind, Function};
 ghost use Rattle.rules.specs.Chains.{chains, walk, leafFrom};
 ghost use Rattle.counts.specs.Counts.{count};
 ghost use Rattle.calls.specs.Hashes.{hashesOf};
+ghost use Rattle.climbs.specs.Leads.{Leads};
 ghost use Rattle.leaf_walks.specs.From.{From};
 use calls::Kit;
 use chains::Spot;
@@ -49,11 +50,8 @@ fn leaf_from_over(
 ) -> Walked
     requires { ⌜ From kit (length (now sig)) (length (now m)) ⌝ }
     requires { ⌜ (length (now ds) ≡ chains (kit .n)) × (length (now ends) ≡ chains (kit .n) * kit .n) ⌝ }
-    ensures { λ r. ⌜ take (kit .n) (r .value) ≡ leafFrom (hashesOf kit (now (seed .entry)))
-        (spot .layer) (spot .tree) (spot .pair) (now (sig .entry)) (now (m .entry)) .result ⌝ }
-    ensures { λ r. ⌜ r .calls ≡ count (Kind.of Function.F) (leafFrom (hashesOf kit (now (seed .entry)))
-        (spot .layer) (spot .tree) (spot .pair) (now (sig .entry)) (now (m .entry)) .calls) ⌝ }
-    ensures { λ r. ⌜ length (r .value) ≡ 32 ⌝ }
+    ensures { λ r. ⌜ Leads (kit .n) (leafFrom (hashesOf kit (now (seed .entry)))
+        (spot .layer) (spot .tree) (spot .pair) (now (sig .entry)) (now (m .entry))) r ⌝ }
 {
     chain_digits(m, ds);
     let _e = put(ends, 0, sig);
@@ -68,11 +66,8 @@ fn leaf_from_over(
 // The leaf that the shown values `sig` lead to for the value m.
 pub fn leaf_from(kit: Kit, seed: &[u8], spot: Spot, sig: &[u8], m: &[u8]) -> Walked
     requires { ⌜ From kit (length (now sig)) (length (now m)) ⌝ }
-    ensures { λ r. ⌜ take (kit .n) (r .value) ≡ leafFrom (hashesOf kit (now (seed .entry)))
-        (spot .layer) (spot .tree) (spot .pair) (now (sig .entry)) (now (m .entry)) .result ⌝ }
-    ensures { λ r. ⌜ r .calls ≡ count (Kind.of Function.F) (leafFrom (hashesOf kit (now (seed .entry)))
-        (spot .layer) (spot .tree) (spot .pair) (now (sig .entry)) (now (m .entry)) .calls) ⌝ }
-    ensures { λ r. ⌜ length (r .value) ≡ 32 ⌝ }
+    ensures { λ r. ⌜ Leads (kit .n) (leafFrom (hashesOf kit (now (seed .entry)))
+        (spot .layer) (spot .tree) (spot .pair) (now (sig .entry)) (now (m .entry))) r ⌝ }
 {
     let len = 2 * kit.n + 3;
     let size = len * kit.n;

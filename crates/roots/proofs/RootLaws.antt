@@ -1,27 +1,25 @@
 -- The root that a seal leads to on plain values: the forest on its part of the seal, and the layers on theirs, are the
 -- rules' walk.
 -- Assumes nothing.
-use mathlib.Core.Path.{_≡_, refl, sym, ap, ap₂, _∙_}
-use mathlib.Core.List.{List, [], _∷_, _++_}
+use mathlib.Core.Path.{_≡_, sym, ap, ap₂, _∙_}
 use Prim.Native.Nat.{ℕ, suc, _+_, _-_, _*_, _^_, _≤_, _<_}
 use native.Mathlib.Omega.{arith}
 use lib.ListN.{length, take, drop, length-drop}
 use Rattle.lists.proofs.Lent.{lent}
 use Rattle.lists.proofs.Filling.{rest-read, lent-length}
 use Rattle.rules.specs.Places.{Bytes}
-use Rattle.rules.specs.Calls.{F, of, Family, Hashes, under, Run, _>>=_}
+use Rattle.rules.specs.Calls.{F, of, Family, under, Run, _>>=_}
 use Rattle.rules.specs.Layers.{layersRoot}
 use Rattle.rules.specs.Forest.{treeBytes, forestBytes, forestRoot}
 use Rattle.rules.specs.Sets.{Row}
 use Rattle.rules.specs.Digest.{Pointed}
 use Rattle.rules.specs.Seal.{partStart, partLength, part}
 use Rattle.rules.specs.Check.{layersPart, rootAt}
-use Rattle.counts.specs.Counts.{count}
-use Rattle.counts.proofs.CountLaws.{count-append}
+use Rattle.counts.specs.Counts.{is, count}
+use Rattle.counts.proofs.CountLaws.{count-append, forest-count}
 use Rattle.rows.specs.Ready.{Ready}
 use Rattle.rows.specs.Shapes.{forestSize, layerSize}
 use Rattle.rows.proofs.SizeLaws.{seal-size, layers-start}
-use Rattle.forest_walks.proofs.ForestLaws.{forest-calls}
 use Rattle.layer_walks.proofs.UpLaws.{up-calls, up-most}
 
 -- ---- The two parts that are walked
@@ -75,6 +73,7 @@ module _ (r : Row) (f : Family (r .n) (r .m)) (pk : Bytes) (at : Pointed) (seal 
   -- The calls fit a word.
   pub few-calls : Ready r → length seal ≡ r .sealBytes → length (at .indices) ≡ r .k → (v : Bytes) {below above : ℕ}
       → below ≡ count (of F) (low .calls) → above ≡ count (of F) (up v .calls) → below + above < 2 ^ 32
+  unfolding is
   few-calls ready long count-is v g h =
       let d : suc (r .d - 1) ≡ r .d = omega (arith, ready .legal .some-layer) in
       let high : suc (r .d - 1) * 1005 ≤ 64 * 1005 = omega (arith, ready .fit .layers) in
@@ -84,7 +83,7 @@ module _ (r : Row) (f : Family (r .n) (r .m)) (pk : Bytes) (at : Pointed) (seal 
         h,
         count-is,
         ready .fit .trees,
-        forest-calls (under f pk) (at .tree) (at .leaf) (r .a) (at .indices) (forestPart r seal),
+        forest-count (under f pk) (of F) (at .tree) (at .leaf) (r .a) (at .indices) (forestPart r seal),
         up-calls (under f pk) (r .h') (r .d - 1) 0 (at .tree) (at .leaf) v (rest r seal)
             (rest-long r seal ready long ∙ ap (λ k. k * layerSize r) (sym d)),
         up-most (under f pk) (r .h') (suc (r .d - 1)) 0 (at .tree) (at .leaf) v (rest r seal) (ready .fit .values),

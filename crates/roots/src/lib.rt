@@ -2,14 +2,13 @@
 // ready, with the F calls counted.
 ghost use mathlib.Core.Path.{_≡_};
 ghost use Prim.Native.Nat.{_^_};
-ghost use lib.ListN.{length, take};
+ghost use lib.ListN.{length};
 ghost use Rattle.lists.specs.Below.{Below};
-ghost use Rattle.rules.specs.Calls.{Kind, Function};
 ghost use Rattle.rules.specs.Check.{rootAt};
-ghost use Rattle.counts.specs.Counts.{count};
 ghost use Rattle.rows.specs.Rows.{ruledRow};
 ghost use Rattle.rows.specs.Ready.{Ready};
 ghost use Rattle.calls.specs.Hashes.{familyFor};
+ghost use Rattle.climbs.specs.Leads.{Leads};
 ghost use Rattle.points.specs.At.{at};
 use calls::Kit;
 use climbs::Walked;
@@ -22,11 +21,8 @@ use rows::Row;
 pub fn root_at(row: Row, seed: &[u8], pointed: Pointed, indices: &[u32], seal: &[u8]) -> Walked
     requires { ⌜ Ready (ruledRow row) × (length (now seal) ≡ row .seal) ⌝ }
     requires { ⌜ (length (now indices) ≡ row .k) × Below (2 ^ row .a) (now indices) ⌝ }
-    ensures { λ r. ⌜ take (row .n) (r .value) ≡ rootAt (ruledRow row) (familyFor (ruledRow row)) (now (seed .entry))
-        (now (seal .entry)) (at pointed (now (indices .entry))) .result ⌝ }
-    ensures { λ r. ⌜ r .calls ≡ count (Kind.of Function.F) (rootAt (ruledRow row) (familyFor (ruledRow row))
-        (now (seed .entry)) (now (seal .entry)) (at pointed (now (indices .entry))) .calls) ⌝ }
-    ensures { λ r. ⌜ length (r .value) ≡ 32 ⌝ }
+    ensures { λ r. ⌜ Leads (row .n) (rootAt (ruledRow row) (familyFor (ruledRow row)) (now (seed .entry))
+        (now (seal .entry)) (at pointed (now (indices .entry)))) r ⌝ }
 {
     let n = row.n;
     let kit = Kit { n: n, m: row.m };

@@ -56,9 +56,9 @@ returns-2 c =
     let verdict = c .judged .ensures in
     check-walked (a .public .now) (a .message .now) (a .seal .now) (ruledRow (a .row))
     (sym (e .before .before .check-answer .ensures) ∙ sym (e .before .number-of .ensures) ∙ e .if1 .left)
-    (verdict .0 ∙ ap₂ (λ (x y : Bytes). cond (same x y) 0 5) (w .checked-root .ensures .0)
+    (verdict .0 ∙ ap₂ (λ (x y : Bytes). cond (same x y) 0 5) (w .checked-root .ensures .value-is)
     (rest-piece (a .row .n) (a .public .now) (two e)))
-    (verdict .1 ∙ w .checked-root .ensures .1 .0)
+    (verdict .1 ∙ w .checked-root .ensures .counted)
 
 pub check-under-spec : {M : Type 1} → statement M
 check-under-spec =

@@ -24,10 +24,12 @@ returns c =
     let r = ruledRow (a .row) in
     let two = s .pre .1 ∙ s .pre .0 .legal .public-long in
     let e = p .aim .ensures in
-    let g = c .root-at .ensures in (
-      checked-made r (familyFor r) (a .public .now) (a .message .now) (a .seal .now) two e (g .0),
-      (checked-calls r (familyFor r) (a .public .now) (a .message .now) (a .seal .now) two e (g .1 .0), g .1 .1),
-    )
+    let g = c .root-at .ensures in
+    record {
+      value-is = checked-made r (familyFor r) (a .public .now) (a .message .now) (a .seal .now) two e (g .value-is);
+      counted = checked-calls r (familyFor r) (a .public .now) (a .message .now) (a .seal .now) two e (g .counted);
+      value-long = g .value-long;
+    }
 
 pub checked-root-over-spec : {M : Type 1} → statement M
 checked-root-over-spec =

@@ -1,8 +1,5 @@
 -- `forest_root_over` compresses the roots that the trees' parts lead to.
 -- Assumes nothing.
-use Prim.Native.Nat.{_*_, _^_, _<_}
-use mathlib.Core.Path.{_≡_}
-use lib.ListN.{length}
 use borrow.Author.Needs.{needs}
 use Rattle.lists.proofs.Bits.{one-shifted}
 use Rattle.calls.specs.Hashes.{hashesOf}
@@ -15,21 +12,23 @@ roots-in-requires c κs =
     let s = c .before .before .before .before .before in
     let wood = s .pre .0 .0 in
     let e = one-shifted (s .args .a) 32 (wood .low) in
-    ((wood .small, e, rw e (wood .leaves), rw e (s .pre .0 .1)), (wood .sig-long, s .pre .1))
+    ((wood .small, e, rw e (wood .leaves), rw e (s .pre .0 .1)), (wood .sig-long, s .pre .1, wood .few))
 
 returns : tie.Need-returns
 returns c =
     let rooted = c .before .before .before .before .before in
     let s = rooted .before .before .before .before .before .before in
     let a = s .args in
-    let w = hashesOf (a .kit) (a .seed .now) in (
-      forest-made w (a .tree) (a .pair) (a .a) (a .ds .now) (a .sig .now) (c .before .before .address-at .ensures)
-          (rooted .roots-in .ensures) (c .t .ensures),
-      (forest-calls w (a .tree) (a .pair) (a .a) (a .ds .now) (a .sig .now), search needs),
-    )
+    let w = hashesOf (a .kit) (a .seed .now) in
+    record {
+      value-is = forest-made w (a .tree) (a .pair) (a .a) (a .ds .now) (a .sig .now)
+          (c .before .before .address-at .ensures) (rooted .roots-in .ensures .0) (c .t .ensures);
+      counted = forest-calls w (a .tree) (a .pair) (a .a) (a .ds .now) (a .sig .now) (rooted .roots-in .ensures .1);
+      value-long = search needs;
+    }
 
 pub forest-root-over-spec : {M : Type 1} → statement M
 forest-root-over-spec =
     tie.close
     (tie.spec (λ c. search needs) roots-in-requires (λ c κs. search needs) (λ c κs. search needs) (λ c. search needs)
-    (λ c. search needs) returns)
+    returns)

@@ -11,14 +11,14 @@ returns c =
     let low = c .before .before .before in
     let s = low .before .before .before .before .before in
     let a = s .args in
-    let w = hashesOf (a .kit) (a .seed .now) in (
-      layer-made w (a .hp) (a .layer) (a .tree) (a .i) (a .sig .now) (a .m .now) (low .leaf-from .ensures .0)
-          (c .climb .ensures),
-      (
-        layer-calls w (a .hp) (a .layer) (a .tree) (a .i) (a .sig .now) (a .m .now) _ (low .leaf-from .ensures .1 .0),
-        search needs,
-      ),
-    )
+    let w = hashesOf (a .kit) (a .seed .now) in
+    let leaf = low .leaf-from .ensures in
+    record {
+      value-is = layer-made w (a .hp) (a .layer) (a .tree) (a .i) (a .sig .now) (a .m .now) (leaf .value-is)
+          (c .climb .ensures);
+      counted = layer-calls w (a .hp) (a .layer) (a .tree) (a .i) (a .sig .now) (a .m .now) _ (leaf .counted);
+      value-long = search needs;
+    }
 
 pub layer-root-spec : {M : Type 1} → statement M
 layer-root-spec =

@@ -2,7 +2,7 @@
 -- the calls.
 -- Assumes nothing.
 use mathlib.Core.Path.{_≡_, refl, sym, ap, ap₂, _∙_}
-use Prim.Native.Nat.{ℕ, suc, _+_, _-_, _*_, _/_, _%_, _^_, _≤_, _<_}
+use Prim.Native.Nat.{ℕ, suc, _+_, _-_, _*_, _^_, _≤_, _<_}
 use native.Mathlib.Nat.{sub-zero, mod-lt}
 use native.Mathlib.Numerals.{unary-clauses}
 use native.Mathlib.Omega.{arith}
@@ -11,14 +11,17 @@ use lib.Seq.{length-take-le}
 use lib.Pow.{pow-pos}
 use borrow.Author.Needs.{needs}
 use Rattle.lists.proofs.Parts.{piece-room}
-use Rattle.lists.proofs.Lent.{lent}
+use Rattle.lists.proofs.Lent.{lent, front}
 use Rattle.lists.proofs.Filling.{lent-length}
 use Rattle.rules.specs.Calls.{F, of}
 use Rattle.rules.specs.Layers.{layerRoot}
 use Rattle.counts.specs.Counts.{count}
 use Rattle.calls.specs.Hashes.{hashesOf}
 use Rattle.rows.proofs.SizeLaws.{size-fits, small-product}
-use Rattle.layer_walks.proofs.UpLaws.{upRun, up-result, up-calls, up-start, up-turn, up-turn-calls, up-end, up-most}
+use Rattle.climbs.specs.Leads.{Leads}
+use Rattle.climbs.proofs.LeadLaws.{leads-by}
+use Rattle.layer_walks.proofs.UpLaws.{upRun, up-result, up-calls, up-start, up-end, up-most}
+use Rattle.layer_walks.proofs.UpLaws.{up-turn, up-turn-calls}
 use Rattle.layer_walks.proofs.layers_root.Statement.{statement}
 use Rattle.layer_walks.proofs.layers_root.Tie as tie
 
@@ -60,37 +63,21 @@ leaves c =
     rw (s .pre .leaves) (pow-pos (s .args .hp))
 
 -- What a turn learnt of the layer it went through.
-record Layer (c : tie.After-u Inv-loop μ-loop) : Type 0 where
-  root : let turn = c .before .before .before .before .before in
-      let a = turn .before .before .before .before .args in
-      let l = turn .before .loop in
-      let n = a .kit .n in
-      take n (c .before .layer-root .result .value)
-      ≡ layerRoot (hashesOf (a .kit) (a .seed .now)) (a .hp) (l .j) (l .t) (l .k)
-      (take ((2 * n + 3) * n + a .hp * n) (drop (l .at) (a .sig .now))) (take n (l .v)) .result
-  calls : let turn = c .before .before .before .before .before in
-      let a = turn .before .before .before .before .args in
-      let l = turn .before .loop in
-      let n = a .kit .n in
-      c .before .layer-root .result .calls
-      ≡ count (of F) (layerRoot (hashesOf (a .kit) (a .seed .now)) (a .hp) (l .j) (l .t) (l .k)
-      (take ((2 * n + 3) * n + a .hp * n) (drop (l .at) (a .sig .now))) (take n (l .v)) .calls)
-
-layer : (c : tie.After-u Inv-loop μ-loop) → Layer c
+layer : (c : tie.After-u Inv-loop μ-loop) → let turn = c .before .before .before .before .before in
+    let a = turn .before .before .before .before .args in
+    let l = turn .before .loop in
+    let n = a .kit .n in
+    Leads n (layerRoot (hashesOf (a .kit) (a .seed .now)) (a .hp) (l .j) (l .t) (l .k)
+    (take ((2 * n + 3) * n + a .hp * n) (drop (l .at) (a .sig .now))) (take n (l .v)))
+    (c .before .layer-root .result)
 layer c =
     let turn = c .before .before .before .before .before in
     let a = turn .before .before .before .before .args in
     let l = turn .before .loop in
     let n = a .kit .n in
-    let w = hashesOf (a .kit) (a .seed .now) in
-    let part = lent (l .at) ((2 * n + 3) * n + a .hp * n) (a .sig .now) in
-    let front : take (n - 0) (l .v) ≡ take n (l .v) = ap (λ k. take k (l .v)) (sub-zero n) in
-    record {
-      root = c .before .layer-root .ensures .0
-          ∙ ap₂ (λ x y. layerRoot w (a .hp) (l .j) (l .t) (l .k) x y .result) part front;
-      calls = c .before .layer-root .ensures .1 .0
-          ∙ ap₂ (λ x y. count (of F) (layerRoot w (a .hp) (l .j) (l .t) (l .k) x y .calls)) part front;
-    }
+    leads-by (ap₂ (layerRoot (hashesOf (a .kit) (a .seed .now)) (a .hp) (l .j) (l .t) (l .k))
+    (lent (l .at) ((2 * n + 3) * n + a .hp * n) (a .sig .now)) (front n (l .v)))
+    (c .before .layer-root .ensures)
 
 loop-holds : tie.Need-loop-holds Inv-loop μ-loop
 loop-holds c =
@@ -125,10 +112,10 @@ add-calls c =
     let v = take (a .kit .n) (c .before .layer-root .result .value) in
     omega (
       arith,
-      layer c .calls,
+      layer c .counted,
       l .inv .3,
       up-turn-calls w (a .hp) (a .d) (l .j) (l .t) (l .k) (l .at) (a .size) (take (a .kit .n) (l .v)) (a .sig .now) v
-          (turn .loop-test .taken) (s .pre .leaves) (layer c .root),
+          (turn .loop-test .taken) (s .pre .leaves) (layer c .value-is),
       up-most w (a .hp) (a .d) 0 (a .tree) (a .i) (take (a .kit .n) (a .m)) (a .sig .now) (s .pre .small),
       s .pre .few,
     )
@@ -145,15 +132,15 @@ loop-again c =
       omega arith,
       omega (arith, l .inv .1),
       up-turn w (a .hp) (a .d) (l .j) (l .t) (l .k) (l .at) (a .size) m (a .sig .now) v (turn .loop-test .taken)
-          (s .pre .leaves) (layer c .root) (l .inv .2),
+          (s .pre .leaves) (layer c .value-is) (l .inv .2),
       omega (
         arith,
-        layer c .calls,
+        layer c .counted,
         l .inv .3,
         up-turn-calls w (a .hp) (a .d) (l .j) (l .t) (l .k) (l .at) (a .size) m (a .sig .now) v
-            (turn .loop-test .taken) (s .pre .leaves) (layer c .root),
+            (turn .loop-test .taken) (s .pre .leaves) (layer c .value-is),
       ),
-      c .before .layer-root .ensures .1 .1,
+      layer c .value-long,
     )
 
 returns : tie.Need-returns Inv-loop μ-loop
@@ -167,16 +154,16 @@ returns c =
     (omega arith) in
     let some : a .d ≡ suc (a .d - 1) = omega (arith, s .pre .some) in
     let long = s .pre .sig-long
-    ∙ ap (λ x. x * ((2 * a .kit .n + 3) * a .kit .n + a .hp * a .kit .n)) some in (
-      sym (end .0) ∙ l .inv .2 ∙ ap (λ k. upRun w (a .hp) k 0 (a .tree) (a .i) m (a .sig .now) .result) some
-          ∙ up-result w (a .hp) (a .d - 1) 0 (a .tree) (a .i) m (a .sig .now) long,
-      (
-        omega (arith, end .1, l .inv .3)
-            ∙ ap (λ k. count (of F) (upRun w (a .hp) k 0 (a .tree) (a .i) m (a .sig .now) .calls)) some
-            ∙ up-calls w (a .hp) (a .d - 1) 0 (a .tree) (a .i) m (a .sig .now) long,
-        l .inv .4,
-      ),
-    )
+    ∙ ap (λ x. x * ((2 * a .kit .n + 3) * a .kit .n + a .hp * a .kit .n)) some in
+    record {
+      value-is = sym (end .0) ∙ l .inv .2
+          ∙ ap (λ k. upRun w (a .hp) k 0 (a .tree) (a .i) m (a .sig .now) .result) some
+          ∙ up-result w (a .hp) (a .d - 1) 0 (a .tree) (a .i) m (a .sig .now) long;
+      counted = omega (arith, end .1, l .inv .3)
+          ∙ ap (λ k. count (of F) (upRun w (a .hp) k 0 (a .tree) (a .i) m (a .sig .now) .calls)) some
+          ∙ up-calls w (a .hp) (a .d - 1) 0 (a .tree) (a .i) m (a .sig .now) long;
+      value-long = l .inv .4;
+    }
 
 cast : tie.Need-cast-k Inv-loop μ-loop
 cast c =

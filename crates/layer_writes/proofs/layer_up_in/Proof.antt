@@ -5,7 +5,9 @@ use Rattle.layer_writes.proofs.layer_up_in.Statement.{statement}
 use Rattle.layer_writes.proofs.layer_up_in.Tie as tie
 
 returns : tie.Need-returns
-returns c = (c .before .before .before .before .before .layer-seal-in .ensures, c .before .layer-root .ensures .0)
+returns c =
+    let root = c .before in
+    (root .before .before .before .before .layer-seal-in .ensures, root .layer-root .ensures .value-is)
 
 pub layer-up-in-spec : {M : Type 1} → statement M
 layer-up-in-spec =

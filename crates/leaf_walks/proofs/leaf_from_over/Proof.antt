@@ -1,11 +1,9 @@
 -- `leaf_from_over` reads the digits, walks from the shown values and compresses the ends.
 -- Assumes nothing.
-use mathlib.Core.Path.{_≡_, refl, sym, ap, _∙_, subst}
-use Prim.Native.Nat.{_*_, _<_}
+use mathlib.Core.Path.{sym, ap, _∙_}
+use Prim.Native.Nat.{_*_}
 use native.Mathlib.Omega.{arith}
-use lib.ListN.{length}
 use borrow.Author.Needs.{needs}
-use Rattle.lists.specs.Below.{Below}
 use Rattle.rules.specs.Chains.{chainDigits}
 use Rattle.rules.proofs.ChecksumLaws.{chainDigits-below}
 use Rattle.calls.specs.Hashes.{hashesOf}
@@ -43,7 +41,7 @@ returns c =
     let calls =
     from-calls w (a .spot .layer) (a .spot .tree) (a .spot .pair) (a .sig .now) (a .m .now) _ ds
     (walked .walk-in .ensures .1) in
-    (value, (calls, search needs))
+    record { value-is = value; counted = calls; value-long = search needs }
 
 pub leaf-from-over-spec : {M : Type 1} → statement M
 leaf-from-over-spec =

@@ -42,7 +42,8 @@ add-t30 c =
     let r = ruledRow (a .row) in
     record {
       fits = few-calls r (familyFor r) (a .seed .now) (at (a .pointed) (a .indices .now)) (a .seal .now) (s .pre .0 .0)
-          (s .pre .0 .1) (s .pre .1 .0) _ (low .forest-root .ensures .1 .0) (c .before .layers-root .ensures .1 .0);
+          (s .pre .0 .1) (s .pre .1 .0) _ (low .forest-root .ensures .counted)
+          (c .before .layers-root .ensures .counted);
     }
 
 returns : tie.Need-returns
@@ -53,10 +54,12 @@ returns c =
     let r = ruledRow (a .row) in
     let p = at (a .pointed) (a .indices .now) in
     let e = low .forest-root .ensures in
-    let g = c .before .layers-root .ensures in (
-      root-made r (familyFor r) (a .seed .now) p (a .seal .now) (e .0) (g .0),
-      (root-calls r (familyFor r) (a .seed .now) p (a .seal .now) (e .0) (e .1 .0) (g .1 .0), g .1 .1),
-    )
+    let g = c .before .layers-root .ensures in
+    record {
+      value-is = root-made r (familyFor r) (a .seed .now) p (a .seal .now) (e .value-is) (g .value-is);
+      counted = root-calls r (familyFor r) (a .seed .now) p (a .seal .now) (e .value-is) (e .counted) (g .counted);
+      value-long = g .value-long;
+    }
 
 pub root-at-spec : {M : Type 1} → statement M
 root-at-spec =

@@ -27,7 +27,7 @@ forest-root-requires c κs =
 returns : tie.Need-returns
 returns c =
     let root = c .before in
-    (root .before .before .before .before .forest-seal-in .ensures, root .forest-root .ensures .0)
+    (root .before .before .before .before .forest-seal-in .ensures, root .forest-root .ensures .value-is)
 
 pub forest-up-in-spec : {M : Type 1} → statement M
 forest-up-in-spec = tie.close (tie.spec forest-seal-in-requires forest-root-requires (λ c. search needs) returns)

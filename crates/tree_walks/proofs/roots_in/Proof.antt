@@ -1,6 +1,7 @@
--- `roots_in` writes the trees' roots one after the other: what is written and what is left to walk are the whole.
+-- `roots_in` writes the trees' roots one after the other: what is written and what is left to walk are the whole, and
+-- so are the calls, one a tree.
 -- Assumes nothing.
-use mathlib.Core.Path.{_≡_, refl, sym, ap, _∙_}
+use mathlib.Core.Path.{_≡_, refl, ap, _∙_}
 use mathlib.Core.List.{_++_}
 use Prim.Native.Nat.{_+_, _-_, _*_, _^_, _≤_, _<_}
 use native.Mathlib.Nat.{sub-zero}
@@ -13,19 +14,23 @@ use Rattle.lists.proofs.Lent.{lent}
 use Rattle.lists.proofs.Filling.{lent-length}
 use Rattle.rules.specs.Forest.{forestWalk}
 use Rattle.calls.specs.Hashes.{hashesOf}
-use Rattle.forest_walks.proofs.ForestLaws.{rootOf, roots-turn, roots-end}
+use Rattle.climbs.specs.Leads.{Leads}
+use Rattle.climbs.proofs.LeadLaws.{leads-by}
+use Rattle.tree_walks.specs.Tree.{treeRun}
+use Rattle.tree_walks.proofs.TreeLaws.{tree-calls, roots-turn, roots-end, roots-calls}
 use Rattle.rows.proofs.SizeLaws.{small-product}
-use Rattle.forest_walks.proofs.roots_in.Statement.{statement}
-use Rattle.forest_walks.proofs.roots_in.Tie as tie
+use Rattle.tree_walks.proofs.roots_in.Statement.{statement}
+use Rattle.tree_walks.proofs.roots_in.Tie as tie
 
 abbrev Inv-loop : tie.InvT-loop
-Inv-loop kit seed tree pair a size ds sig out₀ n step j₀ base₀ at₀ o₀ out j base at o =
+Inv-loop kit seed tree pair a size ds sig out₀ n step calls₀ j₀ base₀ at₀ o₀ out calls j base at o =
     (j ≤ length ds) × (base ≡ j * size) × (at ≡ j * step) × (o ≡ j * n) × (length out ≡ length out₀)
     × (take o out ++ forestWalk (hashesOf kit seed) tree pair a j (drop j ds) (drop at sig) .result
     ≡ forestWalk (hashesOf kit seed) tree pair a 0 ds sig .result)
+    × (calls + (length ds - j) ≡ length ds)
 
 abbrev μ-loop : tie.MeasureT-loop
-μ-loop kit seed tree pair a size ds sig out₀ n step j₀ base₀ at₀ o₀ out j base at o = length ds - j
+μ-loop kit seed tree pair a size ds sig out₀ n step calls₀ j₀ base₀ at₀ o₀ out calls j base at o = length ds - j
 
 -- In a turn there is a part left, room for its root, and room for its leaves' numbers.
 record Room (c : tie.In-loop Inv-loop μ-loop) : Type 0 where
@@ -64,6 +69,28 @@ digit : (c : tie.In-loop Inv-loop μ-loop) → let a = c .before .before .before
     getD (a .ds .now) (c .before .loop .j) 0 < a .size
 digit c = c .before .before .before .before .before .before .pre .0 .3 (c .before .loop .j)
 
+-- What a turn learnt of the tree it went through.
+tree : (c : tie.After-tree-root Inv-loop μ-loop) → let turn = c .before .before .before in
+    let a = turn .before .before .before .before .before .before .args in
+    let l = turn .before .loop in
+    Leads (a .kit .n) (treeRun (hashesOf (a .kit) (a .seed .now)) (a .tree) (a .pair) (a .a)
+    (l .base + getD (a .ds .now) (l .j) 0) (take (a .kit .n + a .a * a .kit .n) (drop (l .at) (a .sig .now))))
+    (c .tree-root .result)
+tree c =
+    let turn = c .before .before .before in
+    let a = turn .before .before .before .before .before .before .args in
+    let l = turn .before .loop in
+    leads-by (ap (treeRun (hashesOf (a .kit) (a .seed .now)) (a .tree) (a .pair) (a .a)
+    (l .base + getD (a .ds .now) (l .j) 0)) (lent (l .at) (a .kit .n + a .a * a .kit .n) (a .sig .now)))
+    (c .tree-root .ensures)
+
+-- It makes one call.
+made : (c : tie.After-tree-root Inv-loop μ-loop) → c .tree-root .result .calls ≡ 1
+made c =
+    let turn = c .before .before .before in
+    let a = turn .before .before .before .before .before .before .args in
+    tree-calls (hashesOf (a .kit) (a .seed .now)) (a .tree) (a .pair) (a .a) _ _ (tree c .counted)
+
 mul-step : tie.Need-mul-step Inv-loop μ-loop
 mul-step c =
     let s = c .before .before .before .before in
@@ -75,7 +102,7 @@ add-step c =
     omega (arith, small-product (s .args .a) (s .args .kit .n) (s .fits .a .fits) (s .pre .0 .0))
 
 loop-holds : tie.Need-loop-holds Inv-loop μ-loop
-loop-holds c = (omega arith, omega arith, omega arith, omega arith, refl, refl)
+loop-holds c = (omega arith, omega arith, omega arith, omega arith, refl, refl, omega arith)
 
 add-leaf : tie.Need-add-tree-root Inv-loop μ-loop
 add-leaf c =
@@ -96,18 +123,33 @@ tree-root-requires c κs =
 
 put-requires : tie.Need-put-requires Inv-loop μ-loop
 put-requires c κs =
-    let turn = c .before .before .before .before .before .before in
+    let rooted = c .before .before .before .before in
+    let turn = rooted .before .before .before in
     let a = turn .before .before .before .before .before .before .args in
-    omega (arith, room turn .root-room, length-take (a .kit .n - 0) (c .before .before .before .tree-root .result))
+    omega (arith, room turn .root-room, length-take (a .kit .n - 0) (rooted .tree-root .result .value))
+
+-- The root that a turn came to has room for n bytes.
+part-put-end : tie.Need-part-put-end Inv-loop μ-loop
+part-put-end c =
+    let rooted = c .before .before .before in
+    let s = rooted .before .before .before .before .before .before .before .before .before in
+    omega (arith, tree rooted .value-long, s .pre .0 .0)
+
+add-calls : tie.Need-add-calls Inv-loop μ-loop
+add-calls c =
+    let rooted = c .before .before .before .before .before .before .before in
+    let turn = rooted .before .before .before in
+    let s = turn .before .before .before .before .before .before in
+    omega (arith, made rooted, turn .before .loop .inv .6, s .pre .1 .2)
 
 add-base : tie.Need-add-base Inv-loop μ-loop
 add-base c =
-    let turn = c .before .before .before .before .before .before .before .before .before in
+    let turn = c .before .before .before .before .before .before .before .before .before .before in
     omega (arith, room turn .leaf-room, turn .before .before .before .before .before .before .pre .0 .2)
 
 loop-again : tie.Need-loop-again Inv-loop μ-loop
 loop-again c =
-    let rooted = c .before .before .before .before .before .before in
+    let rooted = c .before .before .before .before .before .before .before in
     let turn = rooted .before .before .before in
     let l = turn .before .loop in
     let s = turn .before .before .before .before .before .before in
@@ -115,16 +157,14 @@ loop-again c =
     let n = a .kit .n in
     let step = n + a .a * n in
     let put = c .before .before .put in
-    let v = rooted .tree-root .result in
+    let v = rooted .tree-root .result .value in
     let w = hashesOf (a .kit) (a .seed .now) in
     let i = l .base + getD (a .ds .now) (l .j) 0 in
     let front : take (n - 0) v ≡ take n v = ap (λ k. take k v) (sub-zero n) in
-    let long : length (take (n - 0) v) ≡ n = ap length front ∙ length-take-le n v (omega (arith, s .pre .0 .0)) in
+    let long : length (take (n - 0) v) ≡ n = ap length front ∙ length-take-le n v
+    (omega (arith, s .pre .0 .0, tree rooted .value-long)) in
     let leaf : i ≡ l .j * 2 ^ a .a + getD (a .ds .now) (l .j) 0 =
-    ap (λ x. x + getD (a .ds .now) (l .j) 0) (l .inv .1 ∙ ap (λ x. l .j * x) (s .pre .0 .1)) in
-    let root =
-    front ∙ rooted .tree-root .ensures
-    ∙ ap (rootOf w (a .tree) (a .pair) (a .a) i) (lent (l .at) step (a .sig .now)) in (
+    ap (λ x. x + getD (a .ds .now) (l .j) 0) (l .inv .1 ∙ ap (λ x. l .j * x) (s .pre .0 .1)) in (
       omega arith,
       omega (arith, l .inv .1),
       omega (arith, l .inv .2),
@@ -133,7 +173,8 @@ loop-again c =
       ap (λ x. x ++ forestWalk w (a .tree) (a .pair) (a .a) (l .j + 1) (drop (l .j + 1) (a .ds .now))
           (drop (l .at + step) (a .sig .now)) .result) (put .ensures .front)
           ∙ roots-turn w (a .tree) (a .pair) (a .a) (a .ds .now) (l .j) i (l .at) (a .sig .now) (take (l .o) (l .out))
-          (take (n - 0) v) (turn .loop-test .taken) leaf root (l .inv .5),
+          (take (n - 0) v) (turn .loop-test .taken) leaf (front ∙ tree rooted .value-is) (l .inv .5),
+      omega (arith, made rooted, l .inv .6),
     )
 
 returns : tie.Need-returns Inv-loop μ-loop
@@ -144,8 +185,11 @@ returns c =
     let done : l .j ≡ length (a .ds .now) = omega arith in
     let ends = ap (λ x. x * a .kit .n) done in
     let full : length (l .out) ≤ l .o = omega (arith, l .inv .3, ends, l .inv .4, s .pre .1 .1) in
-    roots-end (hashesOf (a .kit) (a .seed .now)) (a .tree) (a .pair) (a .a) (a .ds .now) (l .j) (l .out)
-    (drop (l .at) (a .sig .now)) (omega arith) (rw (take-all (l .o) (l .out) full) at (l .inv .5))
+    let w = hashesOf (a .kit) (a .seed .now) in (
+      roots-end w (a .tree) (a .pair) (a .a) (a .ds .now) (l .j) (l .out) (drop (l .at) (a .sig .now)) (omega arith)
+          (rw (take-all (l .o) (l .out) full) at (l .inv .5)),
+      omega (arith, l .inv .6, done) ∙ roots-calls w (a .tree) (a .pair) (a .a) (a .ds .now) (a .sig .now),
+    )
 
 pub roots-in-spec : {M : Type 1} → statement M
 roots-in-spec =
@@ -153,5 +197,5 @@ roots-in-spec =
     (tie.spec Inv-loop μ-loop mul-step add-step loop-holds (λ c. omega (arith, room c .part-left)) (λ c. search needs)
     (λ c. search needs) add-leaf (λ c. search needs) (λ c. search needs)
     (λ c. omega (arith, room (c .before) .part-left)) tree-root-requires (λ c. search needs)
-    (λ c. search needs) (λ c. search needs) put-requires add-base (λ c. search needs) (λ c. search needs) loop-again
+    (λ c. search needs) part-put-end put-requires add-calls add-base (λ c. search needs) (λ c. search needs) loop-again
     (λ c. c .before .loop .inv .4) returns)
