@@ -19,6 +19,13 @@ use Rattle.counts.specs.Counts.{is, count}
 use Rattle.counts.proofs.CountLaws.{climb-count, forest-walk-count}
 use Rattle.tree_walks.specs.Tree.{treeRun}
 
+-- A turn of the numbers: with tree j of k at most k trees are walked, and the place of the next piece of m.
+pub next-tree : (j k : ℕ) → j < k → j + 1 ≤ k
+next-tree j k h = omega (arith, h)
+
+pub next-place : (j m : ℕ) {x : ℕ} → x ≡ j * m → x + m ≡ (j + 1) * m
+next-place j m e = omega (arith, e)
+
 module _ (w : Hashes) (t p a : ℕ) where
   -- A tree of the forest: F of its secret value, and the climb.
   pub tree-made : (i : ℕ) (part : Bytes) {at leaf root : Bytes} → at ≡ address (forestNode t p 0 i)

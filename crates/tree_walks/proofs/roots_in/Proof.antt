@@ -1,7 +1,7 @@
 -- `roots_in` writes the trees' roots one after the other: what is written and what is left to walk are the whole, and
--- so are the calls, one a tree.
+-- the calls are as many as the trees walked.
 -- Assumes nothing.
-use mathlib.Core.Path.{_≡_, refl, ap, _∙_}
+use mathlib.Core.Path.{_≡_, refl, ap, ap₂, _∙_}
 use mathlib.Core.List.{_++_}
 use Prim.Native.Nat.{_+_, _-_, _*_, _^_, _≤_, _<_}
 use native.Mathlib.Nat.{sub-zero}
@@ -17,7 +17,7 @@ use Rattle.calls.specs.Hashes.{hashesOf}
 use Rattle.climbs.specs.Leads.{Leads}
 use Rattle.climbs.proofs.LeadLaws.{leads-by}
 use Rattle.tree_walks.specs.Tree.{treeRun}
-use Rattle.tree_walks.proofs.TreeLaws.{tree-calls, roots-turn, roots-end, roots-calls}
+use Rattle.tree_walks.proofs.TreeLaws.{next-tree, next-place, tree-calls, roots-turn, roots-end, roots-calls}
 use Rattle.rows.proofs.SizeLaws.{small-product}
 use Rattle.tree_walks.proofs.roots_in.Statement.{statement}
 use Rattle.tree_walks.proofs.roots_in.Tie as tie
@@ -27,7 +27,7 @@ Inv-loop kit seed tree pair a size ds sig out₀ n step calls₀ j₀ base₀ at
     (j ≤ length ds) × (base ≡ j * size) × (at ≡ j * step) × (o ≡ j * n) × (length out ≡ length out₀)
     × (take o out ++ forestWalk (hashesOf kit seed) tree pair a j (drop j ds) (drop at sig) .result
     ≡ forestWalk (hashesOf kit seed) tree pair a 0 ds sig .result)
-    × (calls + (length ds - j) ≡ length ds)
+    × (calls ≡ j)
 
 abbrev μ-loop : tie.MeasureT-loop
 μ-loop kit seed tree pair a size ds sig out₀ n step calls₀ j₀ base₀ at₀ o₀ out calls j base at o = length ds - j
@@ -102,7 +102,7 @@ add-step c =
     omega (arith, small-product (s .args .a) (s .args .kit .n) (s .fits .a .fits) (s .pre .0 .0))
 
 loop-holds : tie.Need-loop-holds Inv-loop μ-loop
-loop-holds c = (omega arith, omega arith, omega arith, omega arith, refl, refl, omega arith)
+loop-holds c = (omega arith, omega arith, omega arith, omega arith, refl, refl, refl)
 
 add-leaf : tie.Need-add-tree-root Inv-loop μ-loop
 add-leaf c =
@@ -165,16 +165,16 @@ loop-again c =
     (omega (arith, s .pre .0 .0, tree rooted .value-long)) in
     let leaf : i ≡ l .j * 2 ^ a .a + getD (a .ds .now) (l .j) 0 =
     ap (λ x. x + getD (a .ds .now) (l .j) 0) (l .inv .1 ∙ ap (λ x. l .j * x) (s .pre .0 .1)) in (
-      omega arith,
-      omega (arith, l .inv .1),
-      omega (arith, l .inv .2),
-      omega (arith, put .ensures .ends, long, l .inv .3),
+      next-tree (l .j) (length (a .ds .now)) (turn .loop-test .taken),
+      next-place (l .j) (a .size) (l .inv .1),
+      next-place (l .j) step (l .inv .2),
+      put .ensures .ends ∙ ap (λ k. l .o + k) long ∙ next-place (l .j) n (l .inv .3),
       put .kept .0 ∙ l .inv .4,
       ap (λ x. x ++ forestWalk w (a .tree) (a .pair) (a .a) (l .j + 1) (drop (l .j + 1) (a .ds .now))
           (drop (l .at + step) (a .sig .now)) .result) (put .ensures .front)
           ∙ roots-turn w (a .tree) (a .pair) (a .a) (a .ds .now) (l .j) i (l .at) (a .sig .now) (take (l .o) (l .out))
           (take (n - 0) v) (turn .loop-test .taken) leaf (front ∙ tree rooted .value-is) (l .inv .5),
-      omega (arith, made rooted, l .inv .6),
+      ap₂ _+_ (l .inv .6) (made rooted),
     )
 
 returns : tie.Need-returns Inv-loop μ-loop
@@ -188,7 +188,7 @@ returns c =
     let w = hashesOf (a .kit) (a .seed .now) in (
       roots-end w (a .tree) (a .pair) (a .a) (a .ds .now) (l .j) (l .out) (drop (l .at) (a .sig .now)) (omega arith)
           (rw (take-all (l .o) (l .out) full) at (l .inv .5)),
-      omega (arith, l .inv .6, done) ∙ roots-calls w (a .tree) (a .pair) (a .a) (a .ds .now) (a .sig .now),
+      l .inv .6 ∙ done ∙ roots-calls w (a .tree) (a .pair) (a .a) (a .ds .now) (a .sig .now),
     )
 
 pub roots-in-spec : {M : Type 1} → statement M
