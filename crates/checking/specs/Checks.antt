@@ -1,6 +1,7 @@
 -- Checking: its answer, and how many F calls it made.
 -- Assumes nothing.
 use mathlib.Core.Path.{_≡_}
+use mathlib.Core.List.{[]}
 use mathlib.Core.Bool.{false, not, cond, _||_}
 use mathlib.Core.Option.{Option, some, none}
 use Prim.Native.Nat.{ℕ}
@@ -10,7 +11,7 @@ use Rattle.rules.specs.Places.{Bytes}
 use Rattle.rules.specs.Calls.{F, of, Run}
 use Rattle.rules.specs.Sets.{Row}
 use Rattle.rules.specs.Keys.{piece}
-use Rattle.rules.specs.Seal.{frame}
+use Rattle.rules.specs.Seal.{plain, frame}
 use Rattle.rules.specs.Check.{checkedRoot}
 use Rattle.counts.specs.Counts.{count}
 use Rattle.calls.specs.Hashes.{familyFor}
@@ -20,7 +21,7 @@ use Rattle.checking.specs.declared.Verdict.{Verdict}
 -- Under the row of the set, if it has one: a public key, a message and a presented seal.
 module _ (row : Option Row) (public message seal : Bytes) where
   abbrev pub recomputed : (r : Row) → Run Bytes
-  recomputed r = checkedRoot r (familyFor r) public (frame message) seal
+  recomputed r = checkedRoot r (familyFor r) public (frame (plain [] message)) seal
 
   abbrev pub checkRefusals : Refusals
   checkRefusals = record {

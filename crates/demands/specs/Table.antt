@@ -10,7 +10,7 @@ use Rattle.rules.specs.Places.{Bytes}
 use Rattle.rules.specs.Chains.{chains}
 use Rattle.rules.specs.Sets.{Row}
 use Rattle.rules.specs.Keys.{piece}
-use Rattle.rules.specs.Seal.{frame}
+use Rattle.rules.specs.Seal.{plain, frame}
 use Rattle.rules.specs.Check.{checkedRoot}
 use Rattle.calls.specs.Hashes.{familyFor}
 use Rattle.answers.specs.Answers.{messageLimit}
@@ -64,7 +64,7 @@ TooLong message = messageLimit < length message
 -- The recomputed root is the key's.
 abbrev pub SameRoot : (public message seal : Bytes) → Row → Type 0
 SameRoot public message seal r =
-    checkedRoot r (familyFor r) public (frame message) seal .result ≡ piece (r .n) 1 public
+    checkedRoot r (familyFor r) public (frame (plain [] message)) seal .result ≡ piece (r .n) 1 public
 
 -- ---- The lines of each operation, under the row of the set, if it has one
 

@@ -11,7 +11,7 @@ ghost use Rattle.rows.specs.Rows.{ruledRow};
 ghost use Rattle.rows.specs.Ready.{Ready};
 ghost use Rattle.calls.specs.Hashes.{familyFor};
 ghost use Rattle.points.specs.At.{at};
-use calls::Kit;
+use calls::kit_of;
 use climbs::Walked;
 use forest_walks::forest_root;
 use layer_walks::layers_root;
@@ -29,7 +29,7 @@ pub fn root_at(row: Row, seed: &[u8], pointed: Pointed, indices: &[u32], seal: &
     ensures { λ r. ⌜ length (r .value) ≡ 32 ⌝ }
 {
     let n = row.n;
-    let kit = Kit { n: n, m: row.m };
+    let kit = kit_of(row);
     let tree = pointed.tree;
     let leaf = pointed.leaf;
     let end = n + (row.k as usize) * (n + (row.a as usize) * n);

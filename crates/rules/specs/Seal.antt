@@ -2,7 +2,7 @@
 -- Assumes nothing.
 use mathlib.Core.List.{[], _∷_, _++_}
 use Prim.Native.Nat.{ℕ, zero, suc, _+_, _-_, _*_}
-use lib.ListN.{take, drop}
+use lib.ListN.{length, take, drop}
 use Rattle.rules.specs.Places.{Bytes}
 use Rattle.rules.specs.Calls.{randomizer, digest, Family, Hashes, under, Run, return, _>>=_}
 use Rattle.rules.specs.Layers.{layerBytes, treeAt, ownRoot, layersSeal}
@@ -11,9 +11,12 @@ use Rattle.rules.specs.Sets.{Row}
 use Rattle.rules.specs.Digest.{Pointed, pointed}
 use Rattle.rules.specs.Keys.{piece}
 
--- Algorithm 22, slh_sign, line 8, with an empty context: the framed message.
-unfoldable pub frame : (message : Bytes) → Bytes
-frame message = 0 ∷ 0 ∷ message
+-- Algorithm 22, slh_sign, line 8: what is sealed is a message framed with its context.
+pub data Frame : Type 0 where
+  plain : (context message : Bytes) → Frame
+
+unfoldable pub frame : Frame → Bytes
+frame (plain context message) = 0 ∷ length context ∷ (context ++ message)
 
 -- Algorithm 19, line 2: the mixed-in bytes are the randomizer input, or the public seed where there is none.
 unfoldable pub mixedIn : (random pkSeed : Bytes) → Bytes

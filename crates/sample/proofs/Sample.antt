@@ -15,7 +15,7 @@ use Rattle.rules.specs.Forest.{treeBytes, forestBytes, forestLeaf, forestSeal, 
 use Rattle.rules.specs.Sets.{Row, row}
 use Rattle.rules.specs.Digest.{lastBits, pointed}
 use Rattle.rules.specs.Keys.{piece, keyRoot, publicKey, secretKey}
-use Rattle.rules.specs.Seal.{frame, mixedIn, randomizerOf, digestOf, written, sealWith, sealOf, partStart, partLength, part}
+use Rattle.rules.specs.Seal.{plain, frame, mixedIn, randomizerOf, digestOf, written, sealWith, sealOf, partStart, partLength, part}
 use Rattle.rules.specs.Check.{layersPart, rootAt, checkedRoot}
 use Rattle.counts.specs.Counts.{is, count}
 use Rattle.rules.proofs.DigitLaws.{length-digits, digits-below}
@@ -60,7 +60,7 @@ seed : ℕ → Bytes
 seed x = replicate 9 x
 
 message : Bytes
-message = frame (0x53 ∷ 0x6B ∷ 0x69 ∷ [])
+message = frame (plain [] (0x53 ∷ 0x6B ∷ 0x69 ∷ []))
 
 -- A list of calls as bytes: of each its letter, its address and its input.
 told : List Call → Bytes

@@ -1,6 +1,7 @@
 -- Sealing: its answer, and what the seal's buffer holds afterwards.
 -- Assumes nothing.
 use mathlib.Core.Path.{_≡_}
+use mathlib.Core.List.{[]}
 use mathlib.Core.Bool.{false, not, _&&_, _||_}
 use mathlib.Core.Option.{Option}
 use Prim.Native.Nat.{ℕ}
@@ -8,7 +9,7 @@ use lib.Dec.{eqb}
 use lib.ListN.{length}
 use Rattle.rules.specs.Places.{Bytes}
 use Rattle.rules.specs.Sets.{Row}
-use Rattle.rules.specs.Seal.{frame, sealOf}
+use Rattle.rules.specs.Seal.{plain, frame, sealOf}
 use Rattle.calls.specs.Hashes.{familyFor}
 use Rattle.answers.specs.Answers.{number, Refusals, smallest, missing, fails, settled, messageFits}
 use Rattle.answers.specs.declared.Answer.{Answer}
@@ -32,4 +33,4 @@ module _ (row : Option Row) (secret message random out : Bytes) where
   pub record Sealed (answer : Answer) (out-after : Bytes) : Type 0 where
     pub answered : number answer ≡ sealAnswer
     pub out-is : out-after
-        ≡ settled sealAnswer row (λ r. sealOf r (familyFor r) secret random (frame message) .result) out
+        ≡ settled sealAnswer row (λ r. sealOf r (familyFor r) secret random (frame (plain [] message)) .result) out

@@ -1,6 +1,7 @@
 -- `seal_in` lends the four pieces of the secret key, and room for 35 digits.
 -- Assumes nothing.
 use mathlib.Core.Path.{_∙_}
+use mathlib.Core.List.{_++_}
 use borrow.Author.Needs.{needs}
 use Rattle.lists.proofs.Parts.{zeros-part}
 use Rattle.rows.specs.Rows.{ruledRow}
@@ -20,8 +21,8 @@ returns c =
     let s = w .before .before .before .before .before .before .before .before .before .before .before .before in
     let a = s .args in
     let r = ruledRow (a .row) in
-    seal-whole r (familyFor r) (a .secret .now) (a .random .now) (a .message .now)
-    (s .pre .1 ∙ s .pre .0 .legal .secret-long) (w .seal-over .ensures)
+    seal-whole r (familyFor r) (a .secret .now) (a .random .now)
+    (a .head .now ++ (a .context .now ++ a .message .now)) (s .pre .1 ∙ s .pre .0 .legal .secret-long) (w .seal-over .ensures)
 
 pub seal-in-spec : {M : Type 1} → statement M
 seal-in-spec =
