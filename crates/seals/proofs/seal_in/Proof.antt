@@ -12,13 +12,15 @@ use Rattle.seals.proofs.seal_in.Tie as tie
 
 seal-over-requires : tie.Need-seal-over-requires
 seal-over-requires c κs =
-    let s = c .before .before .before .before .before .before .before .before .before .before .before in
+    let lent = c .before .before .before .before .before .before in
+    let s = lent .before .before .before .before .before .before .before in
     (s .pre .0, zeros-part (s .args .row .k) 35 (s .pre .0 .fit .trees), s .pre .2)
 
 returns : tie.Need-returns
 returns c =
     let w = c .before .before .before in
-    let s = w .before .before .before .before .before .before .before .before .before .before .before .before in
+    let lent = w .before .before .before .before .before .before .before in
+    let s = lent .before .before .before .before .before .before .before in
     let a = s .args in
     let r = ruledRow (a .row) in
     seal-whole r (familyFor r) (a .secret .now) (a .random .now)

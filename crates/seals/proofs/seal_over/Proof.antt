@@ -19,7 +19,7 @@ use Rattle.seals.proofs.seal_over.Statement.{statement}
 use Rattle.seals.proofs.seal_over.Tie as tie
 
 abbrev start : tie.After-randomized-aim → tie.Start
-start c = c .before .before .before .before .before .before .before .before .before .before
+start c = c .before .before .before .before .before .before .before .before .before .before .before .before .before
 
 -- What was written for the randomizer, and the whole after it.
 abbrev part : tie.After-randomized-aim → Bytes
@@ -52,11 +52,11 @@ begun c =
 
 -- The rest begins within the bytes lent.
 rest-start : tie.Need-sub-written-in
-rest-start c = omega (arith, begun (c .before .before .before) .room)
+rest-start c = omega (arith, begun (c .before .before .before .before .before) .room)
 
 written-in-requires : tie.Need-written-in-requires
 written-in-requires c κs =
-    let m = c .before .before .before .before in
+    let m = c .before .before .before .before .before .before in
     let s = start m in
     let q = in-key (ruledRow (s .args .row)) (s .pre .0 .legal) _ (m .randomized-aim .ensures .1) in
     let rest = rest-long (s .args .row .n) (whole m) (begun m .room) in
@@ -65,7 +65,7 @@ written-in-requires c κs =
 returns : tie.Need-returns
 returns c =
     let w = c .before .before in
-    let m = w .before .before .before .before .before in
+    let m = w .before .before .before .before .before .before .before in
     let a = start m .args in
     let r = ruledRow (a .row) in
     let M = a .head .now ++ (a .context .now ++ a .message .now) in
@@ -75,6 +75,5 @@ returns c =
 pub seal-over-spec : {M : Type 1} → statement M
 seal-over-spec =
     tie.close
-    (tie.spec (λ c. search needs) (λ c. search needs) (λ c. search needs)
-    (λ c κs. search needs) (λ c. search needs) (λ c. search needs) (λ c. search needs) (λ c κs. search needs)
-    rest-start rest-start (λ c. search needs) written-in-requires (λ c. search needs) (λ c. search needs) returns)
+    (tie.spec (λ c. search needs) (λ c. search needs) (λ c. search needs) (λ c κs. search needs) rest-start rest-start
+    (λ c. search needs) written-in-requires (λ c. search needs) (λ c. search needs) returns)
