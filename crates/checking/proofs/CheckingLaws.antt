@@ -2,6 +2,7 @@
 -- Assumes nothing.
 use mathlib.Core.Path.{_≡_, refl, sym, ap, _∙_}
 use mathlib.Core.Bool.{Bool, true, false, not, cond, _||_}
+use mathlib.Core.List.{[], _∷_, _++_}
 use mathlib.Core.Option.{Option, some, none}
 use Prim.Native.Nat.{ℕ}
 use native.Mathlib.Nat.{suc-ne-zero}
@@ -12,7 +13,10 @@ use Rattle.rules.specs.Places.{Bytes}
 use Rattle.rules.specs.Calls.{F, of}
 use Rattle.rules.specs.Sets.{Row}
 use Rattle.rules.specs.Keys.{piece}
+use Rattle.rules.specs.Seal.{plain, frame}
+use Rattle.rules.specs.Check.{checkedRoot}
 use Rattle.counts.specs.Counts.{count}
+use Rattle.calls.specs.Hashes.{familyFor}
 use Rattle.answers.specs.Answers.{number, Refusals, smallest, tested, messageFits, same}
 use Rattle.checking.specs.Checks.{Checked, recomputed}
 use Rattle.answers.specs.declared.Answer.{Answer}
@@ -53,6 +57,18 @@ walked true false c s n h = absurd (suc-ne-zero 2 h)
 walked true true false s n h = absurd (suc-ne-zero 3 h)
 walked true true true true n h = (refl, refl)
 walked true true true false n h = (refl, refl)
+
+-- ---- The walk
+
+-- What precedes the message, an empty context and the message, joined, are the message in its frame.
+framed : (message : Bytes) → (0 ∷ 0 ∷ []) ++ ([] ++ message) ≡ frame (plain [] message)
+unfolding frame
+framed message = refl
+
+pub walk-framed : (public message seal : Bytes) (r : Row)
+    → checkedRoot r (familyFor r) public ((0 ∷ 0 ∷ []) ++ ([] ++ message)) seal
+    ≡ recomputed (some r) public message seal r
+walk-framed public message seal r = ap (λ M. checkedRoot r (familyFor r) public M seal) (framed message)
 
 -- ---- What checking promises
 

@@ -51,7 +51,8 @@ fn check_under(row: Row, public: &[u8], message: &[u8], seal: &[u8]) -> Verdict
             calls: 0,
         };
     }
-    let walked = checked_root(row, public, message, seal);
+    let head = [0u8; 2];
+    let walked = checked_root(row, public, &head, b"", message, seal);
     let root = walked.value;
     let calls = walked.calls;
     if same(&root[..n], &public[n..]) {
