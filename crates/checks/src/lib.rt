@@ -67,5 +67,13 @@ pub fn checked_root(
 {
     let k = row.k as usize;
     let mut indices = [0u32; 35];
-    checked_root_over(row, public, head, context, message, seal, &mut indices[0..k])
+    checked_root_over(
+        row,
+        public,
+        head,
+        context,
+        message,
+        seal,
+        &mut indices[0..k],
+    )
 }

@@ -87,5 +87,15 @@ pub fn aim(
 {
     let m = row.m;
     let mut digest = [0u8; 64];
-    aim_over(row, r, seed, root, head, context, message, &mut digest[0..m], indices)
+    aim_over(
+        row,
+        r,
+        seed,
+        root,
+        head,
+        context,
+        message,
+        &mut digest[0..m],
+        indices,
+    )
 }

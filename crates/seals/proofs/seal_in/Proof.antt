@@ -24,7 +24,8 @@ returns c =
     let a = s .args in
     let r = ruledRow (a .row) in
     seal-whole r (familyFor r) (a .secret .now) (a .random .now)
-    (a .head .now ++ (a .context .now ++ a .message .now)) (s .pre .1 ∙ s .pre .0 .legal .secret-long) (w .seal-over .ensures)
+    (a .head .now ++ (a .context .now ++ a .message .now)) (s .pre .1 ∙ s .pre .0 .legal .secret-long)
+    (w .seal-over .ensures)
 
 pub seal-in-spec : {M : Type 1} → statement M
 seal-in-spec =
