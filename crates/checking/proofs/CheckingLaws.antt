@@ -10,7 +10,7 @@ use lib.Dec.{eqb}
 use lib.ListN.{length}
 use borrow.Author.Tests.{eqb-true}
 use Rattle.rules.specs.Places.{Bytes}
-use Rattle.rules.specs.Calls.{F, of}
+use Rattle.rules.specs.Calls.{F, of, Run}
 use Rattle.rules.specs.Sets.{Row}
 use Rattle.rules.specs.Keys.{piece}
 use Rattle.rules.specs.Seal.{plain, frame}
@@ -58,17 +58,10 @@ walked true true false s n h = absurd (suc-ne-zero 3 h)
 walked true true true true n h = (refl, refl)
 walked true true true false n h = (refl, refl)
 
--- ---- The walk
-
 -- What precedes the message, an empty context and the message, joined, are the message in its frame.
 framed : (message : Bytes) → (0 ∷ 0 ∷ []) ++ ([] ++ message) ≡ frame (plain [] message)
 unfolding frame
 framed message = refl
-
-pub walk-framed : (public message seal : Bytes) (r : Row)
-    → checkedRoot r (familyFor r) public ((0 ∷ 0 ∷ []) ++ ([] ++ message)) seal
-    ≡ recomputed (some r) public message seal r
-walk-framed public message seal r = ap (λ M. checkedRoot r (familyFor r) public M seal) (framed message)
 
 -- ---- What checking promises
 
@@ -96,11 +89,23 @@ module _ (public message seal : Bytes) where
     abbrev first : ℕ
     first = smallest (tested lengths fits room true)
 
+    -- The walk over the message's three pieces.
+    abbrev pub walk : Run Bytes
+    walk = checkedRoot r (familyFor r) public ((0 ∷ 0 ∷ []) ++ ([] ++ message)) seal
+
     abbrev sameRoot : Bool
     sameRoot = same (recomputed (some r) public message seal r .result) (piece (r .n) 1 public)
 
     abbrev fCalls : ℕ
     fCalls = count (of F) (recomputed (some r) public message seal r .calls)
+
+    -- It comes to the same root as the walk over the message in its frame, with as many calls.
+    same-is : same (walk .result) (piece (r .n) 1 public) ≡ sameRoot
+    same-is =
+        ap (λ M. same (checkedRoot r (familyFor r) public M seal .result) (piece (r .n) 1 public)) (framed message)
+
+    calls-are : count (of F) (walk .calls) ≡ fCalls
+    calls-are = ap (λ M. count (of F) (checkedRoot r (familyFor r) public M seal .calls)) (framed message)
 
     pub check-refused : {answer : Answer} → number answer ≡ first → (first ≡ 0 → ⊥)
         → Checked (some r) public message seal (record { answer = answer; calls = 0 })
@@ -108,17 +113,19 @@ module _ (public message seal : Bytes) where
         let w = refused-walk lengths fits room sameRoot fCalls h in
         record { answered = e ∙ w .0; counted = w .1 }
 
-    pub check-done : {calls : ℕ} → first ≡ 0 → sameRoot ≡ true → calls ≡ fCalls
+    pub check-done : {calls : ℕ} → first ≡ 0 → same (walk .result) (piece (r .n) 1 public) ≡ true
+        → calls ≡ count (of F) (walk .calls)
         → Checked (some r) public message seal (record { answer = Done; calls = calls })
     check-done z e f =
         let w = walked lengths fits room sameRoot fCalls z in
-        record { answered = ap (λ (b : Bool). cond b 0 5) (sym e) ∙ w .0; counted = f ∙ w .1 }
+        record { answered = ap (λ (b : Bool). cond b 0 5) (sym e ∙ same-is) ∙ w .0; counted = f ∙ calls-are ∙ w .1 }
 
-    pub check-other : {calls : ℕ} → first ≡ 0 → sameRoot ≡ false → calls ≡ fCalls
+    pub check-other : {calls : ℕ} → first ≡ 0 → same (walk .result) (piece (r .n) 1 public) ≡ false
+        → calls ≡ count (of F) (walk .calls)
         → Checked (some r) public message seal (record { answer = RootDiffers; calls = calls })
     check-other z e f =
         let w = walked lengths fits room sameRoot fCalls z in
-        record { answered = ap (λ (b : Bool). cond b 0 5) (sym e) ∙ w .0; counted = f ∙ w .1 }
+        record { answered = ap (λ (b : Bool). cond b 0 5) (sym e ∙ same-is) ∙ w .0; counted = f ∙ calls-are ∙ w .1 }
 
     pub check-long : first ≡ 0 → (length public ≡ r .publicBytes) × (length seal ≡ r .sealBytes)
     check-long z =

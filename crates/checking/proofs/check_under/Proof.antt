@@ -1,19 +1,15 @@
 -- `check_under` walks where every test has passed, and compares the root that it comes to with the key's.
 -- Assumes nothing.
 use mathlib.Core.Path.{_≡_, sym, ap, ap₂, _∙_}
-use mathlib.Core.Option.{some}
 use Prim.Native.Nat.{_+_, _-_, _*_, _≤_}
 use native.Mathlib.Omega.{arith}
 use lib.ListN.{length, take, drop}
 use lib.Seq.{length-take-le}
 use Rattle.rows.specs.Rows.{ruledRow}
-use Rattle.rules.specs.Calls.{F, of}
 use Rattle.rules.specs.Keys.{piece}
-use Rattle.counts.specs.Counts.{count}
 use Rattle.rows.proofs.SizeLaws.{rest-piece}
-use Rattle.checking.specs.Checks.{recomputed}
 use Rattle.answers.specs.Answers.{same}
-use Rattle.checking.proofs.CheckingLaws.{walk-framed, check-refused, check-done, check-other, check-long}
+use Rattle.checking.proofs.CheckingLaws.{walk, check-refused, check-done, check-other, check-long}
 use borrow.Author.Needs.{needs}
 use Rattle.checking.proofs.check_under.Statement.{statement}
 use Rattle.checking.proofs.check_under.Tie as tie
@@ -64,25 +60,14 @@ begun c = c .before .before .before .before .before .before .before
 -- What was compared: the root that the check came to, and the key's.
 compared : (c : tie.After-same)
     → let a = begun c .before .before .before .before .before .before .args in
-    c .same .result ≡ same (recomputed (some (ruledRow (a .row))) (a .public .now) (a .message .now) (a .seal .now)
-    (ruledRow (a .row)) .result) (piece (a .row .n) 1 (a .public .now))
+    c .same .result ≡ same (walk (a .public .now) (a .message .now) (a .seal .now) (ruledRow (a .row)) .result)
+    (piece (a .row .n) 1 (a .public .now))
 compared c =
     let e = begun c in
     let a = e .before .before .before .before .before .before .args in
     c .same .ensures
-    ∙ ap₂ same (c .before .before .before .before .checked-root .ensures .0
-    ∙ ap (λ w. w .result) (walk-framed (a .public .now) (a .message .now) (a .seal .now) (ruledRow (a .row))))
+    ∙ ap₂ same (c .before .before .before .before .checked-root .ensures .0)
     (rest-piece (a .row .n) (a .public .now) (two e))
-
--- What was counted.
-counted : (c : tie.After-same)
-    → let a = begun c .before .before .before .before .before .before .args in
-    c .before .before .before .before .checked-root .result .calls ≡ count (of F) (recomputed (some (ruledRow (a .row)))
-    (a .public .now) (a .message .now) (a .seal .now) (ruledRow (a .row)) .calls)
-counted c =
-    let a = begun c .before .before .before .before .before .before .args in
-    c .before .before .before .before .checked-root .ensures .1 .0 ∙ ap (λ w. count (of F) (w .calls))
-    (walk-framed (a .public .now) (a .message .now) (a .seal .now) (ruledRow (a .row)))
 
 returns-2 : tie.Need-returns-2
 returns-2 c =
@@ -90,7 +75,8 @@ returns-2 c =
     let a = e .before .before .before .before .before .before .args in
     check-done (a .public .now) (a .message .now) (a .seal .now) (ruledRow (a .row))
     (sym (e .before .before .check-answer .ensures) ∙ sym (e .before .number-of .ensures) ∙ e .if1 .left)
-    (sym (compared (c .before)) ∙ c .if2 .taken) (counted (c .before))
+    (sym (compared (c .before)) ∙ c .if2 .taken)
+    (c .before .before .before .before .before .checked-root .ensures .1 .0)
 
 returns-3 : tie.Need-returns-3
 returns-3 c =
@@ -98,7 +84,7 @@ returns-3 c =
     let a = e .before .before .before .before .before .before .args in
     check-other (a .public .now) (a .message .now) (a .seal .now) (ruledRow (a .row))
     (sym (e .before .before .check-answer .ensures) ∙ sym (e .before .number-of .ensures) ∙ e .if1 .left)
-    (sym (compared (c .before)) ∙ c .if2 .left) (counted (c .before))
+    (sym (compared (c .before)) ∙ c .if2 .left) (c .before .before .before .before .before .checked-root .ensures .1 .0)
 
 pub check-under-spec : {M : Type 1} → statement M
 check-under-spec =
