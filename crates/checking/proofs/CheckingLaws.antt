@@ -1,6 +1,6 @@
 -- What checking promises, from what its tests and its walk gave, on plain values.
 -- Assumes nothing.
-use mathlib.Core.Path.{_≡_, refl, sym, ap, _∙_}
+use mathlib.Core.Path.{_≡_, refl, sym, ap, ap₂, _∙_}
 use mathlib.Core.Bool.{Bool, true, false, not, cond, _||_}
 use mathlib.Core.List.{[], _∷_, _++_}
 use mathlib.Core.Option.{Option, some, none}
@@ -90,7 +90,7 @@ module _ (public message seal : Bytes) where
     first = smallest (tested lengths fits room true)
 
     -- The walk over the message's three pieces.
-    abbrev pub walk : Run Bytes
+    abbrev walk : Run Bytes
     walk = checkedRoot r (familyFor r) public ((0 ∷ 0 ∷ []) ++ ([] ++ message)) seal
 
     abbrev sameRoot : Bool
@@ -100,9 +100,10 @@ module _ (public message seal : Bytes) where
     fCalls = count (of F) (recomputed (some r) public message seal r .calls)
 
     -- It comes to the same root as the walk over the message in its frame, with as many calls.
-    same-is : same (walk .result) (piece (r .n) 1 public) ≡ sameRoot
-    same-is =
-        ap (λ M. same (checkedRoot r (familyFor r) public M seal .result) (piece (r .n) 1 public)) (framed message)
+    pub root-compared : {b : Bool} {root key : Bytes} → b ≡ same root key → root ≡ walk .result
+        → key ≡ piece (r .n) 1 public → b ≡ sameRoot
+    root-compared e f g =
+        e ∙ ap₂ same (f ∙ ap (λ M. checkedRoot r (familyFor r) public M seal .result) (framed message)) g
 
     calls-are : count (of F) (walk .calls) ≡ fCalls
     calls-are = ap (λ M. count (of F) (checkedRoot r (familyFor r) public M seal .calls)) (framed message)
@@ -113,19 +114,17 @@ module _ (public message seal : Bytes) where
         let w = refused-walk lengths fits room sameRoot fCalls h in
         record { answered = e ∙ w .0; counted = w .1 }
 
-    pub check-done : {calls : ℕ} → first ≡ 0 → same (walk .result) (piece (r .n) 1 public) ≡ true
-        → calls ≡ count (of F) (walk .calls)
+    pub check-done : {calls : ℕ} → first ≡ 0 → sameRoot ≡ true → calls ≡ count (of F) (walk .calls)
         → Checked (some r) public message seal (record { answer = Done; calls = calls })
     check-done z e f =
         let w = walked lengths fits room sameRoot fCalls z in
-        record { answered = ap (λ (b : Bool). cond b 0 5) (sym e ∙ same-is) ∙ w .0; counted = f ∙ calls-are ∙ w .1 }
+        record { answered = ap (λ (b : Bool). cond b 0 5) (sym e) ∙ w .0; counted = f ∙ calls-are ∙ w .1 }
 
-    pub check-other : {calls : ℕ} → first ≡ 0 → same (walk .result) (piece (r .n) 1 public) ≡ false
-        → calls ≡ count (of F) (walk .calls)
+    pub check-other : {calls : ℕ} → first ≡ 0 → sameRoot ≡ false → calls ≡ count (of F) (walk .calls)
         → Checked (some r) public message seal (record { answer = RootDiffers; calls = calls })
     check-other z e f =
         let w = walked lengths fits room sameRoot fCalls z in
-        record { answered = ap (λ (b : Bool). cond b 0 5) (sym e ∙ same-is) ∙ w .0; counted = f ∙ calls-are ∙ w .1 }
+        record { answered = ap (λ (b : Bool). cond b 0 5) (sym e) ∙ w .0; counted = f ∙ calls-are ∙ w .1 }
 
     pub check-long : first ≡ 0 → (length public ≡ r .publicBytes) × (length seal ≡ r .sealBytes)
     check-long z =

@@ -6,7 +6,6 @@ ghost use Rattle.rules.specs.Seal.{mixedIn, randomizerOf, sealWith, sealOf};
 ghost use Rattle.rows.specs.Rows.{ruledRow};
 ghost use Rattle.rows.specs.Ready.{Ready};
 ghost use Rattle.calls.specs.Hashes.{familyFor};
-use points::Pointed;
 use randomizers::randomized_aim;
 use rows::Row;
 use writes::written_in;

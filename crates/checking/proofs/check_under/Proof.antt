@@ -1,6 +1,7 @@
 -- `check_under` walks where every test has passed, and compares the root that it comes to with the key's.
 -- Assumes nothing.
-use mathlib.Core.Path.{_≡_, sym, ap, ap₂, _∙_}
+use mathlib.Core.Path.{_≡_, sym, _∙_}
+use mathlib.Core.Option.{some}
 use Prim.Native.Nat.{_+_, _-_, _*_, _≤_}
 use native.Mathlib.Omega.{arith}
 use lib.ListN.{length, take, drop}
@@ -8,8 +9,9 @@ use lib.Seq.{length-take-le}
 use Rattle.rows.specs.Rows.{ruledRow}
 use Rattle.rules.specs.Keys.{piece}
 use Rattle.rows.proofs.SizeLaws.{rest-piece}
+use Rattle.checking.specs.Checks.{recomputed}
 use Rattle.answers.specs.Answers.{same}
-use Rattle.checking.proofs.CheckingLaws.{walk, check-refused, check-done, check-other, check-long}
+use Rattle.checking.proofs.CheckingLaws.{root-compared, check-refused, check-done, check-other, check-long}
 use borrow.Author.Needs.{needs}
 use Rattle.checking.proofs.check_under.Statement.{statement}
 use Rattle.checking.proofs.check_under.Tie as tie
@@ -60,13 +62,13 @@ begun c = c .before .before .before .before .before .before .before
 -- What was compared: the root that the check came to, and the key's.
 compared : (c : tie.After-same)
     → let a = begun c .before .before .before .before .before .before .args in
-    c .same .result ≡ same (walk (a .public .now) (a .message .now) (a .seal .now) (ruledRow (a .row)) .result)
-    (piece (a .row .n) 1 (a .public .now))
+    c .same .result ≡ same (recomputed (some (ruledRow (a .row))) (a .public .now) (a .message .now) (a .seal .now)
+    (ruledRow (a .row)) .result) (piece (a .row .n) 1 (a .public .now))
 compared c =
     let e = begun c in
     let a = e .before .before .before .before .before .before .args in
-    c .same .ensures
-    ∙ ap₂ same (c .before .before .before .before .checked-root .ensures .0)
+    root-compared (a .public .now) (a .message .now) (a .seal .now) (ruledRow (a .row)) (c .same .ensures)
+    (c .before .before .before .before .checked-root .ensures .0)
     (rest-piece (a .row .n) (a .public .now) (two e))
 
 returns-2 : tie.Need-returns-2
