@@ -3,7 +3,6 @@
 use native.Mathlib.Omega.{arith}
 use borrow.Author.Needs.{needs}
 use Rattle.rows.specs.Rows.{ruledRow}
-use Rattle.calls.specs.Hashes.{familyFor}
 use Rattle.rows.proofs.SizeLaws.{layer-leaves}
 use Rattle.keys.proofs.KeyLaws.{root-made}
 use Rattle.keys.proofs.key_root.Statement.{statement}
@@ -19,8 +18,7 @@ returns : tie.Need-returns
 returns c =
     let k = c .before .before in
     let a = k .before .before .before .args in
-    let r = ruledRow (a .row) in
-    root-made r (familyFor r) (a .sk .now) (a .pk .now) (rw (k .kit-of .ensures) at (c .node .ensures))
+    root-made (a .row) (a .sk .now) (a .pk .now) (c .node .result) (k .kit-of .ensures) (c .node .ensures)
 
 pub key-root-spec : {M : Type 1} → statement M
 key-root-spec =
