@@ -6,6 +6,7 @@ use Rattle.shake.proofs.Laws.{length-shake256, below-shake256}
 use Rattle.rules.specs.Places.{Bytes, IsBytes}
 use Rattle.rules.specs.Calls.{Family, shakeFamily, Hashes, under}
 use Rattle.rules.specs.Sets.{Row}
+use Rattle.rows.specs.declared.Row
 use Rattle.calls.specs.declared.Kit.{Kit}
 
 pub shake256-sized : (x : Bytes) (n : ℕ) → IsBytes n (shake256 x n)
@@ -25,3 +26,7 @@ hashesOf kit seed = under (familyOf kit) seed
 -- The family of a row.
 abbrev pub familyFor : (r : Row) → Family (r .n) (r .m)
 familyFor r = family (r .n) (r .m)
+
+-- The kit of a row of the code.
+abbrev pub kitFor : Row.Row → Kit
+kitFor row = record { n = row .n; m = row .m }

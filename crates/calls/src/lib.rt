@@ -6,14 +6,22 @@ ghost use lib.ListN.{length, take};
 ghost use Rattle.shake.specs.Shake.{shake256};
 ghost use Rattle.rules.specs.Calls.{Function};
 ghost use Rattle.addresses.specs.Addresses.{bytesOf};
-ghost use Rattle.calls.specs.Hashes.{familyOf};
+ghost use Rattle.calls.specs.Hashes.{kitFor, familyOf};
 use addresses::Address;
 use addresses::address_bytes;
+use rows::Row;
 
 // The hash functions of a set, for values of n bytes and digests of m bytes.
 pub struct Kit {
     pub n: usize,
     pub m: usize,
+}
+
+// The kit of a row.
+pub fn kit_of(row: Row) -> Kit
+    ensures { λ r. ⌜ r ≡ kitFor row ⌝ }
+{
+    Kit { n: row.n, m: row.m }
 }
 
 // F in place.
@@ -94,23 +102,25 @@ pub fn h(kit: Kit, seed: &[u8], adrs: Address, left: &[u8], right: &[u8]) -> [u8
     out
 }
 
-// The randomizer R. The framed message is what precedes the message, and then the message.
+// The randomizer R. The framed message is what precedes the message, in two pieces, and then the message.
 pub fn randomizer_in(
     kit: Kit,
     prf: &[u8],
     mixed: &[u8],
-    before: &[u8],
+    head: &[u8],
+    context: &[u8],
     message: &[u8],
     out: &mut [u8],
 )
     requires { ⌜ length (now out) ≡ kit .n ⌝ }
-    ensures { λ _. ⌜ now (out .exit)
-        ≡ familyOf kit .PRFmsg (now (prf .entry)) (now (mixed .entry)) (now (before .entry) ++ now (message .entry)) ⌝ }
+    ensures { λ _. ⌜ now (out .exit) ≡ familyOf kit .PRFmsg (now (prf .entry)) (now (mixed .entry))
+        (now (head .entry) ++ (now (context .entry) ++ now (message .entry))) ⌝ }
 {
     let mut s = [0u64; 25];
     let p = shake::absorb_two(&mut s, 0, prf, mixed);
-    let q = shake::absorb_two(&mut s, p, before, message);
-    shake::end(&mut s, q, out);
+    let q = shake::absorb(&mut s, p, head);
+    let t = shake::absorb_two(&mut s, q, context, message);
+    shake::end(&mut s, t, out);
 }
 
 // The digest of the framed message.
@@ -119,17 +129,18 @@ pub fn digest_in(
     r: &[u8],
     seed: &[u8],
     root: &[u8],
-    before: &[u8],
+    head: &[u8],
+    context: &[u8],
     message: &[u8],
     out: &mut [u8],
 )
     requires { ⌜ length (now out) ≡ kit .m ⌝ }
     ensures { λ _. ⌜ now (out .exit) ≡ familyOf kit .Hmsg (now (r .entry)) (now (seed .entry)) (now (root .entry))
-        (now (before .entry) ++ now (message .entry)) ⌝ }
+        (now (head .entry) ++ (now (context .entry) ++ now (message .entry))) ⌝ }
 {
     let mut s = [0u64; 25];
     let p = shake::absorb_two(&mut s, 0, r, seed);
-    let q = shake::absorb(&mut s, p, root);
-    let t = shake::absorb_two(&mut s, q, before, message);
+    let q = shake::absorb_two(&mut s, p, root, head);
+    let t = shake::absorb_two(&mut s, q, context, message);
     shake::end(&mut s, t, out);
 }

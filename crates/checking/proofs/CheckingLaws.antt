@@ -3,17 +3,20 @@
 use mathlib.Core.Path.{_≡_, refl, sym, ap, ap₂, _∙_}
 use mathlib.Core.Logic.{_≢_, _⊎_, inl, inr}
 use mathlib.Core.Bool.{Bool, true, false, cond, _||_}
-use mathlib.Core.List.{List, [], _∷_}
+use mathlib.Core.List.{List, [], _∷_, _++_}
 use mathlib.Core.Option.{Option, some, none}
 use Prim.Native.Nat.{ℕ}
 use native.Mathlib.Nat.{suc-ne-zero}
 use lib.Dec.{eqb}
 use lib.ListN.{length}
 use Rattle.rules.specs.Places.{Bytes}
-use Rattle.rules.specs.Calls.{F, of}
+use Rattle.rules.specs.Calls.{F, of, Run}
 use Rattle.rules.specs.Sets.{Row}
 use Rattle.rules.specs.Keys.{piece}
+use Rattle.rules.specs.Check.{checkedRoot}
+use Rattle.rules.proofs.SealLaws.{framed}
 use Rattle.counts.specs.Counts.{count}
+use Rattle.calls.specs.Hashes.{familyFor}
 use Rattle.answers.specs.Answers.{number}
 use Rattle.answers.specs.Tests.{same}
 use Rattle.answers.specs.Lines.{Line, first}
@@ -79,15 +82,22 @@ module _ (public message seal : Bytes) where
               ∙ ap (λ (x : ℕ). callsAt x fCalls) (sym given);
         }
 
+    -- The walk over the message's three pieces: what precedes it, an empty context and the message.
+    abbrev walk : Run Bytes
+    walk = checkedRoot r (familyFor r) public ((0 ∷ 0 ∷ []) ++ ([] ++ message)) seal
+
     -- Where no line before the walk applies, the root decides.
-    pub check-walked : {v : Verdict} → first early ≡ 0 → number (v .answer) ≡ cond sameRoot 0 5 → v .calls ≡ fCalls
-        → Checked (some r) public message seal v
+    pub check-walked : {v : Verdict} {root own : Bytes} → first early ≡ 0
+        → number (v .answer) ≡ cond (same root own) 0 5 → root ≡ walk .result → own ≡ piece (r .n) 1 public
+        → v .calls ≡ count (of F) (walk .calls) → Checked (some r) public message seal v
     unfolding first
-    check-walked z e f =
+    check-walked z e g h f =
         let given = given-late early (rootLine (some r) public message seal ∷ []) refl z in
         record {
-          answered = e ∙ sym given;
-          counted = f ∙ by-root sameRoot fCalls ∙ ap (λ (x : ℕ). callsAt x fCalls) (sym given);
+          answered = e ∙ ap₂ (λ (x y : Bytes). cond (same x y) 0 5)
+              (g ∙ ap (λ M. checkedRoot r (familyFor r) public M seal .result) (framed [] message)) h ∙ sym given;
+          counted = f ∙ ap (λ M. count (of F) (checkedRoot r (familyFor r) public M seal .calls)) (framed [] message)
+              ∙ by-root sameRoot fCalls ∙ ap (λ (x : ℕ). callsAt x fCalls) (sym given);
         }
 
     pub check-long : first early ≡ 0 → (length public ≡ r .publicBytes) × (length seal ≡ r .sealBytes)

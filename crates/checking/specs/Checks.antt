@@ -11,7 +11,7 @@ use Rattle.rules.specs.Places.{Bytes}
 use Rattle.rules.specs.Calls.{F, of, Run}
 use Rattle.rules.specs.Sets.{Row}
 use Rattle.rules.specs.Keys.{piece}
-use Rattle.rules.specs.Seal.{frame}
+use Rattle.rules.specs.Seal.{plain, frame}
 use Rattle.rules.specs.Check.{checkedRoot}
 use Rattle.counts.specs.Counts.{count}
 use Rattle.calls.specs.Hashes.{familyFor}
@@ -33,7 +33,7 @@ lengthLines row public message seal =
 -- A public key, a message and a presented seal.
 module _ (row : Option Row) (public message seal : Bytes) where
   abbrev pub recomputed : (r : Row) → Run Bytes
-  recomputed r = checkedRoot r (familyFor r) public (frame message) seal
+  recomputed r = checkedRoot r (familyFor r) public (frame (plain [] message)) seal
 
   -- After the walk: the recomputed root is the key's.
   abbrev pub rootLine : Line

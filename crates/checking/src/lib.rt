@@ -66,7 +66,8 @@ fn check_under(row: Row, public: &[u8], message: &[u8], seal: &[u8]) -> Verdict
             calls: 0,
         };
     }
-    let walked = checked_root(row, public, message, seal);
+    let head = [0u8; 2];
+    let walked = checked_root(row, public, &head, b"", message, seal);
     let calls = walked.calls;
     let root = walked.value;
     judged(root, calls, n, &public[n..])

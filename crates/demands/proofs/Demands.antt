@@ -15,7 +15,7 @@ use Rattle.rules.specs.Calls.{F, of}
 use Rattle.rules.specs.Chains.{chains, chainDigits}
 use Rattle.rules.specs.Sets.{Row, rows, rowOf}
 use Rattle.rules.specs.Keys.{piece, publicKey, secretKey}
-use Rattle.rules.specs.Seal.{frame, sealOf, part}
+use Rattle.rules.specs.Seal.{plain, frame, sealOf, part}
 use Rattle.rules.specs.Check.{checkedRoot, Accepted}
 use Rattle.findings.specs.Findings.{OneOfThree}
 use Rattle.counts.specs.Counts.{count, cost, fCalls, callsByCost}
@@ -162,7 +162,7 @@ keys-are set skSeed skPrf pkSeed public secret a public-after secret-after made 
 
 pub seal-is : (set : ℕ) (secret message random out : Bytes) (a : Answer) (seal : Bytes)
     → Sealed (rowOf set) secret message random out a seal → number a ≡ 0
-    → Under (rowOf set) (λ r. seal ≡ sealOf r (familyFor r) secret random (frame message) .result)
+    → Under (rowOf set) (λ r. seal ≡ sealOf r (familyFor r) secret random (frame (plain [] message)) .result)
 seal-is set secret message random out a seal sealed done =
     found (rowOf set) _ (seal-done set secret message random out a seal sealed .0 done .0)
     (λ r e. sealed .out-is ∙ settled-made _ (rowOf set) _ out r (sym (sealed .answered) ∙ done) e)
@@ -186,7 +186,7 @@ digits-are set value digits a digits-after read done =
 pub accepted-exactly : (set : ℕ) (public message seal : Bytes) (v : Verdict)
     → Checked (rowOf set) public message seal v
     → (number (v .answer) ≡ 0) ↔ Under (rowOf set) (λ r.
-    (length public ≡ r .publicBytes) × (Fitting message × Accepted r (familyFor r) public (frame message) seal))
+    (length public ≡ r .publicBytes) × (Fitting message × Accepted r (familyFor r) public (frame (plain [] message)) seal))
 accepted-exactly set public message seal v checked =
     Iff·trans
     (done-when (checkLines (rowOf set) public message seal) refl (number (v .answer)) (checked .answered)) (
@@ -244,7 +244,7 @@ module _ (set : ℕ) (skSeed skPrf pkSeed public-was secret-was : Bytes) (a : An
           ap length (ks .0)
           ∙ publicKey-long r (familyFor r) skSeed pkSeed (pk-long r e) (rowOf-legal set r e .1)
 
-      accepted : (r : Row) → rowOf set ≡ some r → Pair r → Accepted r (familyFor r) public (frame message) seal
+      accepted : (r : Row) → rowOf set ≡ some r → Pair r → Accepted r (familyFor r) public (frame (plain [] message)) seal
       accepted r e ks =
           rw (
             ks .0,
@@ -252,7 +252,7 @@ module _ (set : ℕ) (skSeed skPrf pkSeed public-was secret-was : Bytes) (a : An
             ks .1,
           )
           (accepts r (familyFor r) (rowOf-legal set r e .1) skSeed skPrf pkSeed (sk-long r e)
-          (prf-long r e) (pk-long r e) random (frame message))
+          (prf-long r e) (pk-long r e) random (frame (plain [] message)))
 
   -- ==== Demand 3
 
@@ -260,13 +260,13 @@ module _ (set : ℕ) (skSeed skPrf pkSeed public-was secret-was : Bytes) (a : An
   -- seal. Then one of three things can be pointed to. [...] There is no fourth case."
   pub accepted-is-one-of-three : (message seal : Bytes) (v : Verdict)
       → Checked (rowOf set) public message seal v → number (v .answer) ≡ 0
-      → Under (rowOf set) (λ r. OneOfThree r (familyFor r) skSeed pkSeed (frame message) seal)
+      → Under (rowOf set) (λ r. OneOfThree r (familyFor r) skSeed pkSeed (frame (plain [] message)) seal)
   accepted-is-one-of-three message seal v checked accepted =
       mapped (rowOf set) _ _
       (λ r e q.
-      one-of-three r (rowOf-legal set r e .1) (familyFor r) skSeed pkSeed (frame message) seal
+      one-of-three r (rowOf-legal set r e .1) (familyFor r) skSeed pkSeed (frame (plain [] message)) seal
       (pk-long r e)
-      (subst (λ (x : Bytes). Accepted r (familyFor r) x (frame message) seal) (at-row (rowOf set) _ r e keys .0)
+      (subst (λ (x : Bytes). Accepted r (familyFor r) x (frame (plain [] message)) seal) (at-row (rowOf set) _ r e keys .0)
       (q .1 .1)))
       (accepted-exactly set public message seal v checked .0 accepted)
 
@@ -312,7 +312,7 @@ module _ (set : ℕ) (public message seal : Bytes) (v : Verdict)
     (checked : Checked (rowOf set) public message seal v) where
   -- The number in the list, with answers 0 and 5.
   calls-under : (r : Row) → rowOf set ≡ some r → (number (v .answer) ≡ 0) ⊎ (number (v .answer) ≡ 5)
-      → v .calls ≡ count (of F) (checkedRoot r (familyFor r) public (frame message) seal .calls)
+      → v .calls ≡ count (of F) (checkedRoot r (familyFor r) public (frame (plain [] message)) seal .calls)
   calls-under r e walked =
       checked .counted ∙ ap (λ (o : Option Row). checkCalls o public message seal) e
       ∙ walked-calls (checkAnswer (some r) public message seal) _ (rw answer at walked)
@@ -324,19 +324,19 @@ module _ (set : ℕ) (public message seal : Bytes) (v : Verdict)
   -- (15 - digit)": with answers 0 and 5. The same by checksums, and the least and the greatest number.
   pub calls-counted : (number (v .answer) ≡ 0) ⊎ (number (v .answer) ≡ 5)
       → Under (rowOf set) (λ r.
-      (v .calls ≡ count (of F) (checkedRoot r (familyFor r) public (frame message) seal .calls))
-      × ((v .calls ≡ fCalls r (familyFor r) public (frame message) seal)
-      × ((v .calls ≡ callsByCost r (familyFor r) public (frame message) seal)
+      (v .calls ≡ count (of F) (checkedRoot r (familyFor r) public (frame (plain [] message)) seal .calls))
+      × ((v .calls ≡ fCalls r (familyFor r) public (frame (plain [] message)) seal)
+      × ((v .calls ≡ callsByCost r (familyFor r) public (frame (plain [] message)) seal)
       × ((r .k + 45 * r .d ≤ v .calls) × (v .calls ≤ r .k + cost (30 * r .n) * r .d)))))
   unfolding first
   calls-counted walked =
       let (r, e) = known-row (rowOf set) refl in
       let legal = rowOf-legal set r e .1 in
       let listed = calls-under r e walked in
-      let summed = listed ∙ F-calls r (familyFor r) legal public (frame message) seal in
-      let costed = summed ∙ by-cost r legal (familyFor r) public (frame message) seal in
-      let least = rw (← summed) at (F-least r legal (familyFor r) public (frame message) seal) in
-      let greatest = rw (← summed) at (F-greatest r legal (familyFor r) public (frame message) seal) in
+      let summed = listed ∙ F-calls r (familyFor r) legal public (frame (plain [] message)) seal in
+      let costed = summed ∙ by-cost r legal (familyFor r) public (frame (plain [] message)) seal in
+      let least = rw (← summed) at (F-least r legal (familyFor r) public (frame (plain [] message)) seal) in
+      let greatest = rw (← summed) at (F-greatest r legal (familyFor r) public (frame (plain [] message)) seal) in
       record {
         known = r;
         found = e;

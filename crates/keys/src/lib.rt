@@ -7,7 +7,7 @@ ghost use Rattle.rules.specs.Keys.{keyRoot, publicKey, secretKey};
 ghost use Rattle.rows.specs.Rows.{ruledRow};
 ghost use Rattle.rows.specs.Ready.{Ready};
 ghost use Rattle.calls.specs.Hashes.{familyFor};
-use calls::Kit;
+use calls::kit_of;
 use climbs::groves::Grove;
 use parts::put;
 use rows::Row;
@@ -19,7 +19,7 @@ fn key_root(row: Row, sk: &[u8], pk: &[u8]) -> [u8; 32]
     ensures { λ r. ⌜ take (row .n) r ≡ keyRoot (ruledRow row) (familyFor (ruledRow row)) (now (sk .entry))
         (now (pk .entry)) .result ⌝ }
 {
-    let kit = Kit { n: row.n, m: row.m };
+    let kit = kit_of(row);
     let top = Grove::Layer(row.d - 1, 0);
     node(kit, pk, sk, top, row.hp, 0)
 }

@@ -2,7 +2,7 @@
 -- after the other and fill it.
 -- Assumes nothing.
 use mathlib.Core.Path.{_≡_, sym, ap, ap₂, _∙_}
-use mathlib.Core.List.{List, [], _∷_, _++_}
+use mathlib.Core.List.{List}
 use Prim.Native.Nat.{ℕ, zero, suc, _+_, _-_, _*_, _/_, _%_, _^_, _≤_, _<_}
 use native.Mathlib.Nat.{sub-zero, mod-eq-of-lt, mod-lt, lt-of-lt-of-le, suc-mul, mul-comm}
 use native.Mathlib.Omega.{arith}
@@ -15,7 +15,7 @@ use Rattle.lists.proofs.Lent.{lent}
 use Rattle.rules.specs.Digits.{toInt, base2b}
 use Rattle.rules.specs.Places.{Bytes}
 use Rattle.rules.specs.Calls.{Family}
-use Rattle.rules.specs.Seal.{frame, digestOf}
+use Rattle.rules.specs.Seal.{digestOf}
 use Rattle.rules.specs.Sets.{Row, Legal, bytesFor}
 use Rattle.rules.specs.Digest.{Pointed, lastBits, pointed}
 use Rattle.rules.proofs.DigestLaws.{Placed, placed}
@@ -86,12 +86,11 @@ pub pointed-at : (r : Row) (D : Bytes) {is : List ℕ} {t l : ℕ} → is ≡ po
     → l ≡ pointed r D .leaf → _≡_ {A = Pointed} (record { indices = is; tree = t; leaf = l }) (pointed r D)
 pointed-at r D e f g = rw (e, f, g)
 
--- The digest of a framed message, and where it points.
-pub aimed : (r : Row) (f : Family (r .n) (r .m)) (R seed root message : Bytes) {D : Bytes} {p : Pointed}
-    → D ≡ f .Hmsg R seed root ((0 ∷ 0 ∷ []) ++ message) → p ≡ pointed r D
-    → p ≡ pointed r (digestOf r f R seed root (frame message) .result)
-unfolding digestOf frame
-aimed r f R seed root message e g = g ∙ ap (pointed r) e
+-- The digest of a framed message M, and where it points.
+pub aimed : (r : Row) (f : Family (r .n) (r .m)) (R seed root M : Bytes) {D : Bytes} {p : Pointed}
+    → D ≡ f .Hmsg R seed root M → p ≡ pointed r D → p ≡ pointed r (digestOf r f R seed root M .result)
+unfolding digestOf
+aimed r f R seed root M e g = g ∙ ap (pointed r) e
 
 -- The place lies within the key.
 pub in-key : (r : Row) → Legal r → (D : Bytes) {p : Pointed} → p ≡ pointed r D → Placed r p

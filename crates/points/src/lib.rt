@@ -1,15 +1,16 @@
 // Where a message digest points (FIPS 205, algorithms 19, lines 6 to 10, and 20, lines 9 to 13).
 ghost use mathlib.Core.Path.{_≡_};
+ghost use mathlib.Core.List.{_++_};
 ghost use Prim.Native.Nat.{_≤_};
 ghost use lib.ListN.{length};
 ghost use Rattle.rules.specs.Digest.{lastBits, pointed};
-ghost use Rattle.rules.specs.Seal.{frame, digestOf};
+ghost use Rattle.rules.specs.Seal.{digestOf};
 ghost use Rattle.rows.specs.Rows.{ruledRow};
 ghost use Rattle.points.specs.At.{at};
 ghost use Rattle.rows.specs.Ready.{Ready};
 ghost use Rattle.calls.specs.Hashes.{familyFor};
-use calls::Kit;
 use calls::digest_in;
+use calls::kit_of;
 use digits::digits;
 use digits::to_int;
 use rows::Row;
@@ -46,12 +47,14 @@ fn point(row: Row, digest: &[u8], indices: &mut [u32]) -> Pointed
     }
 }
 
-// Where a message points with its randomizer under a key, with room lent for the digest.
+// Where a framed message points with its randomizer under a key, with room lent for the digest.
 fn aim_over(
     row: Row,
     r: &[u8],
     seed: &[u8],
     root: &[u8],
+    head: &[u8],
+    context: &[u8],
     message: &[u8],
     digest: &mut [u8],
     indices: &mut [u32],
@@ -59,29 +62,40 @@ fn aim_over(
     requires { ⌜ Ready (ruledRow row) × (length (now digest) ≡ row .m) × (length (now indices) ≡ row .k) ⌝ }
     ensures { λ p. ⌜ at p (now (indices .exit)) ≡ pointed (ruledRow row) (digestOf (ruledRow row)
         (familyFor (ruledRow row)) (now (r .entry)) (now (seed .entry)) (now (root .entry))
-        (frame (now (message .entry))) .result) ⌝ }
+        (now (head .entry) ++ (now (context .entry) ++ now (message .entry))) .result) ⌝ }
 {
-    let kit = Kit { n: row.n, m: row.m };
-    let before = [0u8; 2];
-    digest_in(kit, r, seed, root, &before, message, digest);
+    let kit = kit_of(row);
+    digest_in(kit, r, seed, root, head, context, message, digest);
     point(row, digest, indices)
 }
 
-// Where a message points with its randomizer under a key.
+// Where a framed message, in three pieces, points with its randomizer under a key.
 pub fn aim(
     row: Row,
     r: &[u8],
     seed: &[u8],
     root: &[u8],
+    head: &[u8],
+    context: &[u8],
     message: &[u8],
     indices: &mut [u32],
 ) -> Pointed
     requires { ⌜ Ready (ruledRow row) × (length (now indices) ≡ row .k) ⌝ }
     ensures { λ p. ⌜ at p (now (indices .exit)) ≡ pointed (ruledRow row) (digestOf (ruledRow row)
         (familyFor (ruledRow row)) (now (r .entry)) (now (seed .entry)) (now (root .entry))
-        (frame (now (message .entry))) .result) ⌝ }
+        (now (head .entry) ++ (now (context .entry) ++ now (message .entry))) .result) ⌝ }
 {
     let m = row.m;
     let mut digest = [0u8; 64];
-    aim_over(row, r, seed, root, message, &mut digest[0..m], indices)
+    aim_over(
+        row,
+        r,
+        seed,
+        root,
+        head,
+        context,
+        message,
+        &mut digest[0..m],
+        indices,
+    )
 }

@@ -1,14 +1,14 @@
 -- The mixed-in bytes by whether there is a randomizer input, and the randomizer of a framed message.
 -- Assumes nothing.
 use mathlib.Core.Path.{_≡_, refl, sym, ap, _∙_}
-use mathlib.Core.List.{[], _∷_, _++_}
+use mathlib.Core.List.{[], _∷_}
 use Prim.Native.Nat.{ℕ}
 use lib.ListN.{length}
 use Rattle.lists.proofs.Parts.{nil-of-length}
 use Rattle.rules.specs.Places.{Bytes}
 use Rattle.rules.specs.Calls.{Family}
 use Rattle.rules.specs.Sets.{Row}
-use Rattle.rules.specs.Seal.{frame, mixedIn, randomizerOf}
+use Rattle.rules.specs.Seal.{mixedIn, randomizerOf}
 
 -- The mixed-in bytes, where there is no randomizer input and where there is one.
 pub mixed-none : (random pk : Bytes) → length random ≡ 0 → pk ≡ mixedIn random pk
@@ -20,8 +20,8 @@ unfolding mixedIn
 mixed-some [] pk h = absurd (h refl)
 mixed-some (x ∷ xs) pk h = refl
 
--- The randomizer of the framed message.
-pub randomizer-made : (r : Row) (f : Family (r .n) (r .m)) (prf mixed message : Bytes) {R x : Bytes} → x ≡ mixed
-    → R ≡ f .PRFmsg prf x ((0 ∷ 0 ∷ []) ++ message) → R ≡ randomizerOf r f prf mixed (frame message) .result
-unfolding randomizerOf frame
-randomizer-made r f prf mixed message e g = g ∙ ap (λ x. f .PRFmsg prf x (0 ∷ 0 ∷ message)) e
+-- The randomizer of a framed message M.
+pub randomizer-made : (r : Row) (f : Family (r .n) (r .m)) (prf mixed M : Bytes) {R x : Bytes} → x ≡ mixed
+    → R ≡ f .PRFmsg prf x M → R ≡ randomizerOf r f prf mixed M .result
+unfolding randomizerOf
+randomizer-made r f prf mixed M e g = g ∙ ap (λ x. f .PRFmsg prf x M) e

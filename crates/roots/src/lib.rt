@@ -10,7 +10,7 @@ ghost use Rattle.rows.specs.Ready.{Ready};
 ghost use Rattle.calls.specs.Hashes.{familyFor};
 ghost use Rattle.climbs.specs.Leads.{Leads};
 ghost use Rattle.points.specs.At.{at};
-use calls::Kit;
+use calls::kit_of;
 use climbs::Walked;
 use forest_walks::forest_root;
 use layer_walks::layers_root;
@@ -25,7 +25,7 @@ pub fn root_at(row: Row, seed: &[u8], pointed: Pointed, indices: &[u32], seal: &
         (now (seal .entry)) (at pointed (now (indices .entry)))) r ⌝ }
 {
     let n = row.n;
-    let kit = Kit { n: n, m: row.m };
+    let kit = kit_of(row);
     let tree = pointed.tree;
     let leaf = pointed.leaf;
     let end = n + (row.k as usize) * (n + (row.a as usize) * n);

@@ -1,7 +1,7 @@
--- The length of a seal, and what the rules write as each of its parts.
+-- The length of a seal, what the rules write as each of its parts, and a frame by its pieces.
 -- Assumes nothing.
 use mathlib.Core.Path.{_≡_, refl, sym, ap, ap₂, _∙_, subst}
-use mathlib.Core.List.{List, _++_, append-assoc}
+use mathlib.Core.List.{List, [], _∷_, _++_, append-assoc}
 use Prim.Native.Nat.{ℕ, zero, suc, _+_, _-_, _*_, _/_, _%_, _^_, _≤_, _<_}
 use native.Mathlib.Nat.{zero-mul, suc-mul, add-zero, zero-add, add-suc, suc-add, mod-lt}
 use native.Mathlib.Omega.{arith}
@@ -16,10 +16,16 @@ use Rattle.rules.specs.Layers.{chainBytes, layerBytes, ownRoot, layerSea
 use Rattle.rules.specs.Forest.{treeBytes, forestBytes, ownForest, forestSeal}
 use Rattle.rules.specs.Sets.{Row, Legal}
 use Rattle.rules.specs.Digest.{Pointed, pointed}
-use Rattle.rules.specs.Seal.{digestOf, written, sealWith, partStart, partLength, part, heldValue}
+use Rattle.rules.specs.Seal.{plain, frame, digestOf, written, sealWith, partStart, partLength, part, heldValue}
 use Rattle.rules.proofs.LayerLaws.{layerSeal-long, layersSeal-suc, layersSeal-long}
 use Rattle.rules.proofs.ForestLaws.{forestSeal-long, forest-accepts}
 use Rattle.rules.proofs.DigestLaws.{Placed, placed, leafAt-lt}
+
+-- Two bytes, the context and the message, joined, are the message in its frame.
+pub framed : (context message : Bytes)
+    → (0 ∷ length context ∷ []) ++ (context ++ message) ≡ frame (plain context message)
+unfolding frame
+framed context message = refl
 
 -- ---- Lengths
 

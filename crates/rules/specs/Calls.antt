@@ -1,6 +1,7 @@
 -- The hash functions, and computations that keep the list of the calls they made (FIPS 205, sections 4.1 and 11).
 -- Assumes nothing.
 use mathlib.Core.List.{List, [], _∷_, _++_}
+use mathlib.Core.Option.{Option, some, none}
 use Prim.Native.Nat.{ℕ}
 use Rattle.rules.specs.Places.{Bytes, IsBytes, Place, address}
 
@@ -13,11 +14,16 @@ pub data Kind : Type 0 where
   of : Function → Kind
   randomizer digest : Kind
 
--- A call: its kind, the 32 bytes of its address (none for randomizer and digest) and its input.
+-- A call: its kind, the place that it is made at (none for randomizer and digest) and its input.
 pub record Call : Type 0 where
   pub kind : Kind
-  pub at : Bytes
+  pub place : Option Place
   pub input : Bytes
+
+-- The bytes of its address: 32, or none where it has no place.
+abbrev pub addressOf : Option Place → Bytes
+addressOf none = []
+addressOf (some p) = address p
 
 -- ---- Hash families
 
@@ -67,7 +73,7 @@ m >>= f = record { result = (f (m .result)) .result; calls = m .calls ++ (f (m .
 
 -- The call of a function at a place, and the run that makes it.
 abbrev pub callOf : Function → Place → Bytes → Call
-callOf g p x = record { kind = of g; at = address p; input = x }
+callOf g p x = record { kind = of g; place = some p; input = x }
 
 abbrev pub ask : Hashes → Function → Place → Bytes → Run Bytes
 ask w g p x = record { result = w .hash g (address p) x; calls = callOf g p x ∷ [] }

@@ -1,8 +1,9 @@
 -- Seals and their parts (FIPS 205, sections 9.2 and 10.2.1).
 -- Assumes nothing.
 use mathlib.Core.List.{[], _∷_, _++_}
+use mathlib.Core.Option.{none}
 use Prim.Native.Nat.{ℕ, zero, suc, _+_, _-_, _*_}
-use lib.ListN.{take, drop}
+use lib.ListN.{length, take, drop}
 use Rattle.rules.specs.Places.{Bytes}
 use Rattle.rules.specs.Calls.{randomizer, digest, Family, Hashes, under, Run, return, _>>=_}
 use Rattle.rules.specs.Layers.{layerBytes, treeAt, ownRoot, layersSeal}
@@ -11,9 +12,12 @@ use Rattle.rules.specs.Sets.{Row}
 use Rattle.rules.specs.Digest.{Pointed, pointed}
 use Rattle.rules.specs.Keys.{piece}
 
--- Algorithm 22, slh_sign, line 8, with an empty context: the framed message.
-unfoldable pub frame : (message : Bytes) → Bytes
-frame message = 0 ∷ 0 ∷ message
+-- Algorithm 22, slh_sign, line 8: what is sealed is a message framed with its context.
+pub data Frame : Type 0 where
+  plain : (context message : Bytes) → Frame
+
+unfoldable pub frame : Frame → Bytes
+frame (plain context message) = 0 ∷ length context ∷ (context ++ message)
 
 -- Algorithm 19, line 2: the mixed-in bytes are the randomizer input, or the public seed where there is none.
 unfoldable pub mixedIn : (random pkSeed : Bytes) → Bytes
@@ -26,14 +30,14 @@ module _ (r : Row) (f : Family (r .n) (r .m)) where
   unfoldable pub randomizerOf : (skPrf mixed M : Bytes) → Run Bytes
   randomizerOf skPrf mixed M = record {
     result = f .PRFmsg skPrf mixed M;
-    calls = record { kind = randomizer; at = []; input = skPrf ++ (mixed ++ M) } ∷ [];
+    calls = record { kind = randomizer; place = none; input = skPrf ++ (mixed ++ M) } ∷ [];
   }
 
   -- Algorithm 19, line 5: the message digest, with its call.
   unfoldable pub digestOf : (R pkSeed root M : Bytes) → Run Bytes
   digestOf R pkSeed root M = record {
     result = f .Hmsg R pkSeed root M;
-    calls = record { kind = digest; at = []; input = R ++ (pkSeed ++ (root ++ M)) } ∷ [];
+    calls = record { kind = digest; place = none; input = R ++ (pkSeed ++ (root ++ M)) } ∷ [];
   }
 
   -- Algorithm 19, lines 11 to 17: what the sealing rules write from the seeds for the place that the digest points to.

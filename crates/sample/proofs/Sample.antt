@@ -7,7 +7,7 @@ use Prim.Native.Nat.{ℕ, zero, suc, _+_, _-_, _*_, _/_, _%_, _^_}
 use lib.ListN.{length, take, drop, replicate}
 use Rattle.rules.specs.Digits.{value, digits, toByte, toInt, base2b}
 use Rattle.rules.specs.Places.{Bytes, IsBytes, words, address}
-use Rattle.rules.specs.Calls.{F, H, T, PRF, Kind, of, randomizer, digest, Call, Family, Run}
+use Rattle.rules.specs.Calls.{F, H, T, PRF, Kind, of, randomizer, digest, Call, addressOf, Family, Run}
 use Rattle.rules.specs.Chains.{steps, ownDigits, checksum, chainDigits, chain, ends, leaf, shown, walk, leafFrom}
 use Rattle.rules.specs.Trees.{join, sibling, node, path, climb}
 use Rattle.rules.specs.Layers.{chainBytes, layerBytes, ownRoot, layerSeal, layerRoot, layersSeal, layersRoot}
@@ -15,7 +15,7 @@ use Rattle.rules.specs.Forest.{treeBytes, forestBytes, forestLeaf, forestSeal, 
 use Rattle.rules.specs.Sets.{Row, row}
 use Rattle.rules.specs.Digest.{lastBits, pointed}
 use Rattle.rules.specs.Keys.{piece, keyRoot, publicKey, secretKey}
-use Rattle.rules.specs.Seal.{frame, mixedIn, randomizerOf, digestOf, written, sealWith, sealOf, partStart, partLength, part}
+use Rattle.rules.specs.Seal.{plain, frame, mixedIn, randomizerOf, digestOf, written, sealWith, sealOf, partStart, partLength, part}
 use Rattle.rules.specs.Check.{layersPart, rootAt, checkedRoot}
 use Rattle.counts.specs.Counts.{is, count}
 use Rattle.rules.proofs.DigitLaws.{length-digits, digits-below}
@@ -60,12 +60,12 @@ seed : ℕ → Bytes
 seed x = replicate 9 x
 
 message : Bytes
-message = frame (0x53 ∷ 0x6B ∷ 0x69 ∷ [])
+message = frame (plain [] (0x53 ∷ 0x6B ∷ 0x69 ∷ []))
 
 -- A list of calls as bytes: of each its letter, its address and its input.
 told : List Call → Bytes
 told [] = []
-told (c ∷ cs) = letter (c .kind) ∷ (c .at ++ (c .input ++ told cs))
+told (c ∷ cs) = letter (c .kind) ∷ (addressOf (c .place) ++ (c .input ++ told cs))
 
 -- Stirred: public key, secret key, the deterministic seal, a hedged one, and the calls of the first's sealing and
 -- check; then how many calls its sealing makes, and the F, H, T and digest calls of its check.

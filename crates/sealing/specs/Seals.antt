@@ -7,7 +7,7 @@ use Prim.Native.Nat.{ℕ}
 use lib.ListN.{length}
 use Rattle.rules.specs.Places.{Bytes}
 use Rattle.rules.specs.Sets.{Row}
-use Rattle.rules.specs.Seal.{frame, sealOf}
+use Rattle.rules.specs.Seal.{plain, frame, sealOf}
 use Rattle.calls.specs.Hashes.{familyFor}
 use Rattle.answers.specs.Answers.{number, messageLimit, settled}
 use Rattle.answers.specs.Tests.{equal, within, either, known, under}
@@ -33,4 +33,4 @@ module _ (row : Option Row) (secret message random out : Bytes) where
   pub record Sealed (answer : Answer) (out-after : Bytes) : Type 0 where
     pub answered : number answer ≡ sealAnswer
     pub out-is : out-after
-        ≡ settled sealAnswer row (λ r. sealOf r (familyFor r) secret random (frame message) .result) out
+        ≡ settled sealAnswer row (λ r. sealOf r (familyFor r) secret random (frame (plain [] message)) .result) out

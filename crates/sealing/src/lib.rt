@@ -44,7 +44,8 @@ fn seal_under<'a>(
 {
     let answer = seal_answer(row, secret.len(), message.len(), random.len(), out.len());
     if number_of(answer) == 0 {
-        seal_in(row, secret, message, random, out);
+        let head = [0u8; 2];
+        seal_in(row, secret, &head, b"", message, random, out);
         return Answer::Done;
     }
     answer

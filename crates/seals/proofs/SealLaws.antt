@@ -3,56 +3,51 @@
 use mathlib.Core.Path.{_≡_, ap, ap₂, _∙_}
 use mathlib.Core.List.{_++_}
 use Prim.Native.Nat.{ℕ, _+_, _-_, _*_}
-use native.Mathlib.Nat.{sub-zero}
 use native.Mathlib.Omega.{arith}
 use borrow.Rule.Slice.PartMut.{putMid}
 use lib.ListN.{length, take, drop}
-use Rattle.lists.proofs.Filling.{front-written, both-written}
+use Rattle.lists.proofs.Filling.{both-written}
 use Rattle.rules.specs.Places.{Bytes}
 use Rattle.rules.specs.Calls.{Family}
 use Rattle.rules.specs.Sets.{Row}
 use Rattle.rules.specs.Digest.{Pointed, pointed}
 use Rattle.rules.specs.Keys.{piece}
-use Rattle.rules.specs.Seal.{frame, mixedIn, randomizerOf, digestOf, written, sealWith, sealOf}
+use Rattle.rules.specs.Seal.{mixedIn, randomizerOf, digestOf, written, sealWith, sealOf}
 use Rattle.rows.proofs.SizeLaws.{piece-lent}
 
--- The front that was lent and written is what it came back as.
-front-is : (m : ℕ) (out xs : Bytes) → length xs ≡ m → take (m - 0) (putMid 0 (m - 0) out xs) ≡ xs
-front-is m out xs long =
-    ap (λ (k : ℕ). take k (putMid 0 (m - 0) out xs)) (sub-zero m) ∙ front-written m out xs long
-
-module _ (r : Row) (f : Family (r .n) (r .m)) (sk pk root message : Bytes) where
+-- M is a framed message.
+module _ (r : Row) (f : Family (r .n) (r .m)) (sk pk root M : Bytes) where
   -- Where the message points with a randomizer.
   abbrev aimed : Bytes → Pointed
-  aimed R = pointed r (digestOf r f R pk root (frame message) .result)
+  aimed R = pointed r (digestOf r f R pk root M .result)
 
   -- What follows the randomizer.
   rest-is : (R : Bytes) {p : Pointed} {ys : Bytes} → p ≡ aimed R → ys ≡ written r f sk pk p .result
-      → R ++ ys ≡ sealWith r f R sk pk root (frame message) .result
+      → R ++ ys ≡ sealWith r f R sk pk root M .result
   unfolding sealWith
   rest-is R e g = ap (λ (x : Bytes). R ++ x) (g ∙ ap (λ q. written r f sk pk q .result) e)
 
   pub seal-made : (out : Bytes) {R S ys : Bytes} {p : Pointed} → length R ≡ r .n → R ≡ S
-      → p ≡ aimed (take (r .n - 0) (putMid 0 (r .n - 0) out R)) → ys ≡ written r f sk pk p .result
+      → p ≡ aimed R → ys ≡ written r f sk pk p .result
       → putMid (r .n) (length (putMid 0 (r .n - 0) out R) - r .n) (putMid 0 (r .n - 0) out R) ys
-      ≡ sealWith r f S sk pk root (frame message) .result
+      ≡ sealWith r f S sk pk root M .result
   seal-made out {R} {S} {ys} lr e g h =
-      both-written (r .n) out R ys lr ∙ rest-is R (g ∙ ap aimed (front-is (r .n) out R lr)) h
-      ∙ ap (λ x. sealWith r f x sk pk root (frame message) .result) e
+      both-written (r .n) out R ys lr ∙ rest-is R g h
+      ∙ ap (λ x. sealWith r f x sk pk root M .result) e
 
 -- ---- The whole seal, on a secret key as bytes
 
-module _ (r : Row) (f : Family (r .n) (r .m)) (secret random message : Bytes) where
+module _ (r : Row) (f : Family (r .n) (r .m)) (secret random M : Bytes) where
   -- A seal with the pieces of a key.
   abbrev sealed : (sk prf pk root : Bytes) → Bytes
   sealed sk prf pk root =
-      sealWith r f (randomizerOf r f prf (mixedIn random pk) (frame message) .result) sk pk root (frame message) .result
+      sealWith r f (randomizerOf r f prf (mixedIn random pk) M .result) sk pk root M .result
 
   pub seal-whole : length secret ≡ 4 * r .n → {x : Bytes}
       → x ≡ sealed (take (r .n - 0) secret) (take (r .n + r .n - r .n) (drop (r .n) secret))
       (take (r .n + r .n + r .n - (r .n + r .n)) (drop (r .n + r .n) secret))
       (take (length secret - (r .n + r .n + r .n)) (drop (r .n + r .n + r .n) secret))
-      → x ≡ sealOf r f secret random (frame message) .result
+      → x ≡ sealOf r f secret random M .result
   unfolding sealOf
   seal-whole long e =
       let n = r .n in

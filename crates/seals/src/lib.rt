@@ -1,23 +1,25 @@
 // Seals (FIPS 205, algorithm 19), under a row that is ready.
 ghost use mathlib.Core.Path.{_≡_};
+ghost use mathlib.Core.List.{_++_};
 ghost use lib.ListN.{length};
-ghost use Rattle.rules.specs.Seal.{frame, mixedIn, randomizerOf, sealWith, sealOf};
+ghost use Rattle.rules.specs.Seal.{mixedIn, randomizerOf, sealWith, sealOf};
 ghost use Rattle.rows.specs.Rows.{ruledRow};
 ghost use Rattle.rows.specs.Ready.{Ready};
 ghost use Rattle.calls.specs.Hashes.{familyFor};
-use points::aim;
-use randomizers::randomizer_of_in;
+use randomizers::randomized_aim;
 use rows::Row;
 use writes::written_in;
 
-// The seal of a message, by the pieces of the secret key, with room lent for the forest's digits: the randomizer (line
-// 3), where the message points with it (lines 4 to 10), and what is written for that (lines 11 to 17).
+// The seal of a framed message, by the pieces of the secret key, with room lent for the forest's digits: the randomizer
+// and where the message points with it (lines 2 to 10), and what is written for that (lines 11 to 17).
 fn seal_over<'a>(
     row: Row,
     sk: &[u8],
     prf: &[u8],
     seed: &'a [u8],
     root: &[u8],
+    head: &[u8],
+    context: &[u8],
     message: &[u8],
     random: &'a [u8],
     indices: &mut [u32],
@@ -26,20 +28,40 @@ fn seal_over<'a>(
     requires { ⌜ Ready (ruledRow row) × (length (now indices) ≡ row .k) × (length (now out) ≡ row .seal) ⌝ }
     ensures { λ _. ⌜ now (out .exit) ≡ sealWith (ruledRow row) (familyFor (ruledRow row))
         (randomizerOf (ruledRow row) (familyFor (ruledRow row)) (now (prf .entry))
-        (mixedIn (now (random .entry)) (now (seed .entry))) (frame (now (message .entry))) .result)
-        (now (sk .entry)) (now (seed .entry)) (now (root .entry)) (frame (now (message .entry))) .result ⌝ }
+        (mixedIn (now (random .entry)) (now (seed .entry)))
+        (now (head .entry) ++ (now (context .entry) ++ now (message .entry))) .result)
+        (now (sk .entry)) (now (seed .entry)) (now (root .entry))
+        (now (head .entry) ++ (now (context .entry) ++ now (message .entry))) .result ⌝ }
 {
     let n = row.n;
-    randomizer_of_in(row, prf, random, seed, message, &mut out[0..n]);
-    let pointed = aim(row, &out[0..n], seed, root, message, indices);
+    let pointed = randomized_aim(
+        row,
+        prf,
+        seed,
+        root,
+        head,
+        context,
+        message,
+        random,
+        indices,
+        &mut out[0..n],
+    );
     written_in(row, seed, sk, pointed, indices, &mut out[n..]);
 }
 
-// The seal of a message. A secret key is secret seed, prf seed, public seed and root.
-pub fn seal_in<'a>(row: Row, secret: &'a [u8], message: &[u8], random: &'a [u8], out: &mut [u8])
+// The seal of a framed message, in three pieces. A secret key is secret seed, prf seed, public seed and root.
+pub fn seal_in<'a>(
+    row: Row,
+    secret: &'a [u8],
+    head: &[u8],
+    context: &[u8],
+    message: &[u8],
+    random: &'a [u8],
+    out: &mut [u8],
+)
     requires { ⌜ Ready (ruledRow row) × (length (now secret) ≡ row .secret) × (length (now out) ≡ row .seal) ⌝ }
     ensures { λ _. ⌜ now (out .exit) ≡ sealOf (ruledRow row) (familyFor (ruledRow row)) (now (secret .entry))
-        (now (random .entry)) (frame (now (message .entry))) .result ⌝ }
+        (now (random .entry)) (now (head .entry) ++ (now (context .entry) ++ now (message .entry))) .result ⌝ }
 {
     let n = row.n;
     let two = n + n;
@@ -52,6 +74,8 @@ pub fn seal_in<'a>(row: Row, secret: &'a [u8], message: &[u8], random: &'a [u8],
         &secret[n..two],
         &secret[two..three],
         &secret[three..],
+        head,
+        context,
         message,
         random,
         &mut indices[0..k],

@@ -12,7 +12,7 @@ ghost use Rattle.rows.specs.Ready.{Ready};
 ghost use Rattle.rows.specs.Shapes.{forestSize, layerSize};
 ghost use Rattle.calls.specs.Hashes.{familyFor};
 ghost use Rattle.points.specs.At.{at};
-use calls::Kit;
+use calls::kit_of;
 use forest_walks::forest_root;
 use forest_writes::forest_seal_in;
 use points::Pointed;
@@ -35,7 +35,7 @@ fn forest_up_in(
     ensures { λ r. ⌜ take (row .n) r ≡ forestRoot (under (familyFor (ruledRow row)) (now (seed .entry)))
         (pointed .tree) (pointed .leaf) (row .a) (now (indices .entry)) (now (out .exit)) .result ⌝ }
 {
-    let kit = Kit { n: row.n, m: row.m };
+    let kit = kit_of(row);
     forest_seal_in(
         kit,
         seed,
@@ -57,7 +57,7 @@ fn layers_in(row: Row, seed: &[u8], sk: &[u8], pointed: Pointed, m: [u8; 32], ou
     ensures { λ _. ⌜ now (out .exit) ≡ layersSeal (under (familyFor (ruledRow row)) (now (seed .entry))) (row .hp)
         (now (sk .entry)) (row .d - 1) 0 (pointed .tree) (pointed .leaf) (take (row .n) m) .result ⌝ }
 {
-    let kit = Kit { n: row.n, m: row.m };
+    let kit = kit_of(row);
     let size = 1u64 << row.hp;
     layers_seal_in(
         kit,

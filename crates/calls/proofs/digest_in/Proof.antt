@@ -5,7 +5,7 @@ use mathlib.Core.List.{_++_}
 use borrow.Author.Needs.{needs}
 use Rattle.shake.specs.Shake.{shake256}
 use Rattle.calls.specs.Hashes.{family}
-use Rattle.calls.proofs.HashLaws.{four-joined}
+use Rattle.calls.proofs.HashLaws.{five-joined}
 use Rattle.calls.proofs.digest_in.Statement.{statement}
 use Rattle.calls.proofs.digest_in.Tie as tie
 
@@ -13,13 +13,13 @@ returns : tie.Need-returns
 unfolding family
 returns c =
     let late = c .before .before .before .before .before .before .before in
-    let s = late .before .before .before .before .before .before .before .before .before .before in
+    let s = late .before .before .before .before .before .before .before .before .before .before .before in
     let a = s .args in
-    let x = a .before .now ++ a .message .now in
-    four-joined (a .r .now) (a .seed .now) (a .root .now) x _
-    (late .before .before .absorb-two .ensures) (late .absorb .ensures)
-    (c .before .before .before .before .before .absorb-two2 .ensures) (c .before .before .end .ensures)
-    ∙ ap (λ n. shake256 (a .r .now ++ (a .seed .now ++ (a .root .now ++ x))) n) (s .pre)
+    let x = a .context .now ++ a .message .now in
+    five-joined (a .r .now) (a .seed .now) (a .root .now) (a .head .now) x _
+    (late .before .before .absorb-two .ensures) (late .absorb-two2 .ensures)
+    (c .before .before .before .before .before .absorb-two3 .ensures) (c .before .before .end .ensures)
+    ∙ ap (λ n. shake256 (a .r .now ++ (a .seed .now ++ (a .root .now ++ (a .head .now ++ x)))) n) (s .pre)
 
 pub digest-in-spec : {M : Type 1} → statement M
 digest-in-spec =

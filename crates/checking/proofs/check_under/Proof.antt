@@ -1,14 +1,11 @@
 -- `check_under` walks where every test has passed, and compares the root that it comes to with the key's.
 -- Assumes nothing.
-use mathlib.Core.Path.{_≡_, sym, ap₂, _∙_}
-use mathlib.Core.Bool.{cond}
+use mathlib.Core.Path.{_≡_, sym, _∙_}
 use Prim.Native.Nat.{_-_, _*_, _≤_}
 use native.Mathlib.Omega.{arith}
 use lib.ListN.{length}
-use Rattle.rules.specs.Places.{Bytes}
 use Rattle.rows.specs.Rows.{ruledRow}
 use Rattle.rows.proofs.SizeLaws.{rest-piece}
-use Rattle.answers.specs.Tests.{same}
 use Rattle.checking.proofs.CheckingLaws.{check-refused, check-walked, check-long}
 use borrow.Author.Needs.{needs}
 use Rattle.checking.proofs.check_under.Statement.{statement}
@@ -31,7 +28,9 @@ long c =
     (sym (c .before .before .check-answer .ensures) ∙ sym (c .before .number-of .ensures) ∙ c .if1 .left)
 
 checked-root-requires : tie.Need-checked-root-requires
-checked-root-requires c κs = (c .before .before .before .before .before .before .pre, long c .0, long c .1)
+checked-root-requires c κs =
+    let e = c .before .before in
+    (e .before .before .before .before .before .before .pre, long e .0, long e .1)
 
 -- The key is two pieces.
 two : (c : tie.Else1)
@@ -40,28 +39,28 @@ two : (c : tie.Else1)
 two c = long c .0 ∙ c .before .before .before .before .before .before .pre .legal .public-long
 
 sub-judged : tie.Need-sub-judged
-sub-judged c = omega (arith, two (c .before .before))
+sub-judged c = omega (arith, two (c .before .before .before .before))
 
 part-judged-start : tie.Need-part-judged-start
-part-judged-start c = omega (arith, two (c .before .before))
+part-judged-start c = omega (arith, two (c .before .before .before .before))
 
 judged-requires : tie.Need-judged-requires
-judged-requires c κs = c .before .before .before .before .before .before .before .before .before .pre .fit .values
+judged-requires c κs =
+    let e = c .before .before .before .before .before in
+    e .before .before .before .before .before .before .pre .fit .values
 
 returns-2 : tie.Need-returns-2
 returns-2 c =
     let w = c .before .before .before in
-    let e = w .before in
+    let e = w .before .before .before in
     let a = e .before .before .before .before .before .before .args in
-    let verdict = c .judged .ensures in
     check-walked (a .public .now) (a .message .now) (a .seal .now) (ruledRow (a .row))
     (sym (e .before .before .check-answer .ensures) ∙ sym (e .before .number-of .ensures) ∙ e .if1 .left)
-    (verdict .0 ∙ ap₂ (λ (x y : Bytes). cond (same x y) 0 5) (w .checked-root .ensures .value-is)
-    (rest-piece (a .row .n) (a .public .now) (two e)))
-    (verdict .1 ∙ w .checked-root .ensures .counted)
+    (c .judged .ensures .0) (w .checked-root .ensures .value-is)
+    (rest-piece (a .row .n) (a .public .now) (two e)) (c .judged .ensures .1 ∙ w .checked-root .ensures .counted)
 
 pub check-under-spec : {M : Type 1} → statement M
 check-under-spec =
     tie.close
-    (tie.spec (λ c κs. search needs) (λ c κs. search needs) returns checked-root-requires
-    sub-judged part-judged-start (λ c. search needs) judged-requires returns-2)
+    (tie.spec (λ c κs. search needs) (λ c κs. search needs) returns (λ c. search needs) (λ c. search needs)
+    checked-root-requires sub-judged part-judged-start (λ c. search needs) judged-requires returns-2)

@@ -4,7 +4,7 @@ use native.Mathlib.Omega.{arith}
 use borrow.Author.Needs.{needs}
 use Rattle.rows.specs.Rows.{ruledRow}
 use Rattle.calls.specs.Hashes.{familyFor}
-use Rattle.rows.proofs.SizeLaws.{tree-room}
+use Rattle.rows.proofs.SizeLaws.{tree-room, seal-size}
 use Rattle.rows.proofs.ShapeLaws.{wood, stack}
 use Rattle.points.specs.At.{at}
 use Rattle.roots.proofs.RootLaws.{forest-long, rest-long, root-made, root-calls, few-calls}
@@ -13,48 +13,63 @@ use Rattle.roots.proofs.root_at.Tie as tie
 
 mul-end : tie.Need-mul-end
 mul-end c =
-    let s = c .before .before .before .before .before in
+    let s = c .before .before .before .before .before .before in
     record { fits = omega (arith, tree-room (ruledRow (s .args .row)) (s .pre .0 .0)) }
 
 add-end : tie.Need-add-end
 add-end c =
-    let s = c .before .before .before .before .before in
+    let s = c .before .before .before .before .before .before in
     record { fits = omega (arith, tree-room (ruledRow (s .args .row)) (s .pre .0 .0)) }
 
 forest-root-requires : tie.Need-forest-root-requires
 forest-root-requires c κs =
-    let s = c .before .before .before .before .before .before in
+    let k = c .before .before .before in
+    let s = k .before .before .before .before in
     let r = ruledRow (s .args .row) in
     let long = forest-long r (s .args .seal .now) (s .pre .0 .0) (s .pre .0 .1) in
-    (wood r (s .pre .0 .0) _ _ (s .pre .1 .0) long, s .pre .1 .1)
+    rw (k .kit-of .ensures) (wood r (s .pre .0 .0) _ _ (s .pre .1 .0) long, s .pre .1 .1)
+
+shl-size : tie.Need-shl-size
+shl-size c =
+    let s = c .before .before .before .before .before .before .before .before .before .before in
+    omega (arith, s .pre .0 .0 .fit .heights)
+
+-- The layers' parts begin within the seal.
+layers-start : tie.Need-sub-layers-root
+layers-start c =
+    let s = c .before .before .before .before .before .before .before .before .before .before in
+    omega (arith, s .pre .0 .1, seal-size (ruledRow (s .args .row)) (s .pre .0 .0))
 
 layers-root-requires : tie.Need-layers-root-requires
 layers-root-requires c κs =
-    let s = c .before .before .before .before .before .before .before .before .before .before in
+    let k = c .before .before .before .before .before .before .before in
+    let s = k .before .before .before .before in
     let r = ruledRow (s .args .row) in
-    stack r (s .pre .0 .0) _ (rest-long r (s .args .seal .now) (s .pre .0 .0) (s .pre .0 .1))
+    rw (k .kit-of .ensures) (stack r (s .pre .0 .0) _ (rest-long r (s .args .seal .now) (s .pre .0 .0) (s .pre .0 .1)))
 
 add-t30 : tie.Need-add-t30
 add-t30 c =
     let low = c .before .before .before .before .before in
-    let s = low .before .before .before .before .before .before .before in
+    let k = low .before .before .before .before in
+    let s = k .before .before .before .before in
     let a = s .args in
     let r = ruledRow (a .row) in
     record {
       fits = few-calls r (familyFor r) (a .seed .now) (at (a .pointed) (a .indices .now)) (a .seal .now) (s .pre .0 .0)
-          (s .pre .0 .1) (s .pre .1 .0) _ (low .forest-root .ensures .counted)
-          (c .before .layers-root .ensures .counted);
+          (s .pre .0 .1) (s .pre .1 .0) _ (rw (k .kit-of .ensures) at (low .forest-root .ensures .counted))
+          (rw (k .kit-of .ensures) at (c .before .layers-root .ensures .counted));
     }
 
 returns : tie.Need-returns
 returns c =
     let low = c .before .before .before .before .before in
-    let s = low .before .before .before .before .before .before .before in
+    let k = low .before .before .before .before in
+    let s = k .before .before .before .before in
     let a = s .args in
     let r = ruledRow (a .row) in
     let p = at (a .pointed) (a .indices .now) in
-    let e = low .forest-root .ensures in
-    let g = c .before .layers-root .ensures in
+    let e = rw (k .kit-of .ensures) at (low .forest-root .ensures) in
+    let g = rw (k .kit-of .ensures) at (c .before .layers-root .ensures) in
     record {
       value-is = root-made r (familyFor r) (a .seed .now) p (a .seal .now) (e .value-is) (g .value-is);
       counted = root-calls r (familyFor r) (a .seed .now) p (a .seal .now) (e .value-is) (e .counted) (g .counted);
@@ -65,6 +80,7 @@ pub root-at-spec : {M : Type 1} → statement M
 root-at-spec =
     tie.close
     (tie.spec
+    (λ c κs. search needs)
     (λ c. search needs)
     (λ c. search needs)
     mul-end
@@ -76,9 +92,9 @@ root-at-spec =
     (λ c. search needs)
     forest-root-requires
     (λ c. search needs)
-    (λ c. search needs)
-    (λ c. search needs)
-    (λ c. search needs)
+    shl-size
+    layers-start
+    layers-start
     (λ c. search needs)
     layers-root-requires
     add-t30

@@ -9,18 +9,18 @@ use Rattle.sealing.proofs.seal_under.Tie as tie
 
 seal-in-requires : tie.Need-seal-in-requires
 seal-in-requires c κs =
-    let s = c .before .before .before .before .before .before .before .before in
+    let t = c .before .before .before in
+    let s = t .before .before .before .before .before .before .before in
     let a = s .args in
-    let z = sym (c .before .before .before .seal-answer .ensures) ∙ sym (c .before .before .number-of .ensures) ∙
-    c .before .if1 .taken in
+    let z = sym (t .before .before .seal-answer .ensures) ∙ sym (t .before .number-of .ensures) ∙ t .if1 .taken in
     let l = seal-long (a .secret .now) (a .message .now) (a .random .now) (a .out .now) (ruledRow (a .row)) z in
     (s .pre, l .0, l .1)
 
 returns : tie.Need-returns
 returns c =
-    let a = c .before .before .before .before .before .before .before .before .before .before .before .args in
-    let z = sym (c .before .before .before .before .before .before .seal-answer .ensures) ∙ sym
-    (c .before .before .before .before .before .number-of .ensures) ∙ c .before .before .before .before .if1 .taken in
+    let t = c .before .before .before .before .before .before in
+    let a = t .before .before .before .before .before .before .before .args in
+    let z = sym (t .before .before .seal-answer .ensures) ∙ sym (t .before .number-of .ensures) ∙ t .if1 .taken in
     seal-done (a .secret .now) (a .message .now) (a .random .now) (a .out .now) (ruledRow (a .row)) z
     (c .before .before .seal-in .ensures)
 
@@ -34,4 +34,5 @@ returns-2 c =
 pub seal-under-spec : {M : Type 1} → statement M
 seal-under-spec =
     tie.close
-    (tie.spec (λ c κs. search needs) (λ c κs. search needs) seal-in-requires (λ c. search needs) returns returns-2)
+    (tie.spec (λ c κs. search needs) (λ c κs. search needs) (λ c. search needs) (λ c. search needs) seal-in-requires
+    (λ c. search needs) returns returns-2)

@@ -1,6 +1,7 @@
--- `seal_over` writes the randomizer, reads where the message points with it, and writes the rest for that place.
+-- `seal_over` writes the randomizer, and for the place where the message points with it the rest.
 -- Assumes nothing.
 use mathlib.Core.Path.{_≡_, _∙_}
+use mathlib.Core.List.{_++_}
 use Prim.Native.Nat.{_-_, _≤_}
 use native.Mathlib.Omega.{arith}
 use lib.ListN.{length}
@@ -17,30 +18,30 @@ use Rattle.seals.proofs.SealLaws.{seal-made}
 use Rattle.seals.proofs.seal_over.Statement.{statement}
 use Rattle.seals.proofs.seal_over.Tie as tie
 
-abbrev start : tie.After-randomizer-of-in → tie.Start
-start c = c .before .before .before .before .before .before .before .before .before .before
+abbrev start : tie.After-randomized-aim → tie.Start
+start c = c .before .before .before .before .before .before .before .before .before .before .before .before .before
 
 -- What was written for the randomizer, and the whole after it.
-abbrev part : tie.After-randomizer-of-in → Bytes
-part c = c .randomizer-of-in .last .1 .1 .1 .1 .1 .0
+abbrev part : tie.After-randomized-aim → Bytes
+part c = c .randomized-aim .last .1 .1 .1 .1 .1 .1 .1 .1 .1 .0
 
-abbrev whole : tie.After-randomizer-of-in → Bytes
+abbrev whole : tie.After-randomized-aim → Bytes
 whole c =
     let a = start c .args in
     putMid 0 (a .row .n - 0) (a .out .now) (part c)
 
 -- The part has its length, and the whole keeps its own.
-record Begun (c : tie.After-randomizer-of-in) : Type 0 where
+record Begun (c : tie.After-randomized-aim) : Type 0 where
   part-long : length (part c) ≡ start c .args .row .n
   whole-long : length (whole c) ≡ length (start c .args .out .now)
   room : start c .args .row .n ≤ length (whole c)
 
-begun : (c : tie.After-randomizer-of-in) → Begun c
+begun : (c : tie.After-randomized-aim) → Begun c
 begun c =
     let s = start c in
     let a = s .args in
     let n = a .row .n in
-    let kept = c .randomizer-of-in .kept .1 .1 .1 .1 .1 .0 in
+    let kept = c .randomized-aim .kept .1 .1 .1 .1 .1 .1 .1 .1 .1 .0 in
     let room : n ≤ length (a .out .now) = omega (arith, s .pre .2, seal-size (ruledRow (a .row)) (s .pre .0)) in
     let same = same-len-mid 0 (n - 0) (a .out .now) (part c) kept in
     record {
@@ -49,35 +50,30 @@ begun c =
       room = omega (arith, room, same);
     }
 
-abbrev randomized : tie.After-aim → tie.After-randomizer-of-in
-randomized p = p .before .before .before .before .before .before
-
 -- The rest begins within the bytes lent.
 rest-start : tie.Need-sub-written-in
-rest-start c = omega (arith, begun (randomized (c .before .before .before)) .room)
+rest-start c = omega (arith, begun (c .before .before .before .before .before) .room)
 
 written-in-requires : tie.Need-written-in-requires
 written-in-requires c κs =
-    let p = c .before .before .before .before in
-    let m = randomized p in
+    let m = c .before .before .before .before .before .before in
     let s = start m in
-    let q = in-key (ruledRow (s .args .row)) (s .pre .0 .legal) _ (p .aim .ensures) in
+    let q = in-key (ruledRow (s .args .row)) (s .pre .0 .legal) _ (m .randomized-aim .ensures .1) in
     let rest = rest-long (s .args .row .n) (whole m) (begun m .room) in
     ((s .pre .0, rest ∙ begun m .whole-long ∙ s .pre .2), (q .indices-long, q .indices-below, q .leaf-lt))
 
 returns : tie.Need-returns
 returns c =
     let w = c .before .before in
-    let p = w .before .before .before .before .before in
-    let m = randomized p in
+    let m = w .before .before .before .before .before .before .before in
     let a = start m .args in
     let r = ruledRow (a .row) in
-    seal-made r (familyFor r) (a .sk .now) (a .seed .now) (a .root .now) (a .message .now) (a .out .now)
-    (begun m .part-long) (m .randomizer-of-in .ensures) (p .aim .ensures) (w .written-in .ensures)
+    let M = a .head .now ++ (a .context .now ++ a .message .now) in
+    seal-made r (familyFor r) (a .sk .now) (a .seed .now) (a .root .now) M (a .out .now) (begun m .part-long)
+    (m .randomized-aim .ensures .0) (m .randomized-aim .ensures .1) (w .written-in .ensures)
 
 pub seal-over-spec : {M : Type 1} → statement M
 seal-over-spec =
     tie.close
-    (tie.spec (λ c. search needs) (λ c. search needs) (λ c. search needs)
-    (λ c κs. search needs) (λ c. search needs) (λ c. search needs) (λ c. search needs) (λ c κs. search needs)
-    rest-start rest-start (λ c. search needs) written-in-requires (λ c. search needs) (λ c. search needs) returns)
+    (tie.spec (λ c. search needs) (λ c. search needs) (λ c. search needs) (λ c κs. search needs) rest-start rest-start
+    (λ c. search needs) written-in-requires (λ c. search needs) (λ c. search needs) returns)
