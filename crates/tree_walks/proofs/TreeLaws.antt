@@ -1,5 +1,5 @@
 -- The laws of the trees' walk on plain values: a tree is F of its secret value and the climb from it, what is done and
--- what is left of the trees are the whole, and so are the calls.
+-- what is left of the trees are the whole, and each tree makes one F call.
 -- Assumes nothing.
 use mathlib.Core.Path.{_≡_, sym, ap, ap₂, _∙_}
 use mathlib.Core.List.{List, _++_, append-assoc, append-nil}
