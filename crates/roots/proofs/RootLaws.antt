@@ -2,6 +2,7 @@
 -- rules' walk.
 -- Assumes nothing.
 use mathlib.Core.Path.{_≡_, sym, ap, ap₂, _∙_}
+use mathlib.Core.List.{List}
 use Prim.Native.Nat.{ℕ, suc, _+_, _-_, _*_, _^_, _≤_, _<_}
 use native.Mathlib.Omega.{arith}
 use lib.ListN.{length, take, drop, length-drop}
@@ -70,21 +71,24 @@ module _ (r : Row) (f : Family (r .n) (r .m)) (pk : Bytes) (at : Pointed) (seal 
         ap₂ _+_ g (h ∙ ap (λ x. count (of F) (up x .calls)) e)
         ∙ sym (ap (λ x. count (of F) (x .calls)) root-cut ∙ count-append (of F) (low .calls) (up (low .result) .calls))
 
-  -- The calls fit a word.
-  pub few-calls : Ready r → length seal ≡ r .sealBytes → length (at .indices) ≡ r .k → (v : Bytes) {below above : ℕ}
-      → below ≡ count (of F) (low .calls) → above ≡ count (of F) (up v .calls) → below + above < 2 ^ 32
+-- The calls fit a word, at whatever places they are made.
+module _ (r : Row) (f : Family (r .n) (r .m)) (pk seal : Bytes) (ready : Ready r) (long : length seal ≡ r .sealBytes) where
+  pub few-calls : (ds : List ℕ) → length ds ≡ r .k → (t l u i : ℕ) (v : Bytes) {below above : ℕ}
+      → below ≡ count (of F) (forestRoot (under f pk) t l (r .a) ds (forestPart r seal) .calls)
+      → above ≡ count (of F) (layersRoot (under f pk) (r .h') (r .d - 1) 0 u i v (rest r seal) .calls)
+      → below + above < 2 ^ 32
   unfolding is
-  few-calls ready long count-is v g h =
+  few-calls ds many t l u i v g h =
       let d : suc (r .d - 1) ≡ r .d = omega (arith, ready .legal .some-layer) in
       let high : suc (r .d - 1) * 1005 ≤ 64 * 1005 = omega (arith, ready .fit .layers) in
       omega (
         arith,
         g,
         h,
-        count-is,
+        many,
         ready .fit .trees,
-        forest-count (under f pk) (of F) (at .tree) (at .leaf) (r .a) (at .indices) (forestPart r seal),
-        up-calls (under f pk) (r .h') (r .d - 1) 0 (at .tree) (at .leaf) v (rest r seal)
+        forest-count (under f pk) (of F) t l (r .a) ds (forestPart r seal),
+        up-calls (under f pk) (r .h') (r .d - 1) 0 u i v (rest r seal)
             (rest-long r seal ready long ∙ ap (λ k. k * layerSize r) (sym d)),
-        up-most (under f pk) (r .h') (suc (r .d - 1)) 0 (at .tree) (at .leaf) v (rest r seal) (ready .fit .values),
+        up-most (under f pk) (r .h') (suc (r .d - 1)) 0 u i v (rest r seal) (ready .fit .values),
       )

@@ -55,8 +55,8 @@ add-t30 c =
     let a = s .args in
     let r = ruledRow (a .row) in
     record {
-      fits = few-calls r (familyFor r) (a .seed .now) (at (a .pointed) (a .indices .now)) (a .seal .now) (s .pre .0 .0)
-          (s .pre .0 .1) (s .pre .1 .0) _ (rw (k .kit-of .ensures) at (low .forest-root .ensures .counted))
+      fits = few-calls r (familyFor r) (a .seed .now) (a .seal .now) (s .pre .0 .0) (s .pre .0 .1) (a .indices .now)
+          (s .pre .1 .0) _ _ _ _ _ (rw (k .kit-of .ensures) at (low .forest-root .ensures .counted))
           (rw (k .kit-of .ensures) at (c .before .layers-root .ensures .counted));
     }
 
