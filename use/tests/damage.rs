@@ -6,8 +6,8 @@ use common::paper::{Row, CHAINS, MESSAGE_LIMIT, ROWS};
 use common::{second_keys, second_seal, soak, thin, Random};
 use skimdral::{check, Answer, Verdict};
 
-/// A set with a key, a message and its seal, how many damaged cases were drawn so far, how many checks compared, and how
-/// many accepted.
+/// A set with a key, a message and its seal, how many damaged cases were drawn so far, how many checks were compared,
+/// and how many accepted.
 struct Sealed {
     row: Row,
     public: Vec<u8>,

@@ -23,7 +23,8 @@ unfolding first
 one-line n t ls e f g = e ∙ ap₂ (λ (b : Bool) (x : ℕ). cond b x n) f g
 
 -- A line whose test is known to pass.
-pub passed-line : (n : ℕ) (t : Test) (ls : List Line) {r : ℕ} → passes t ≡ true → r ≡ first ls → r ≡ first (line n t ∷ ls)
+pub passed-line : (n : ℕ) (t : Test) (ls : List Line) {r : ℕ} → passes t ≡ true → r ≡ first ls
+    → r ≡ first (line n t ∷ ls)
 unfolding first
 passed-line n t ls e g = g ∙ ap₂ (λ (b : Bool) (x : ℕ). cond b x n) (sym e) refl
 

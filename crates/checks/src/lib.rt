@@ -25,7 +25,8 @@ fn checked_root_over(
     requires { ⌜ Ready (ruledRow row) × (length (now public) ≡ row .public) × (length (now seal) ≡ row .seal)
         × (length (now indices) ≡ row .k) ⌝ }
     ensures { λ r. ⌜ Leads (row .n) (checkedRoot (ruledRow row) (familyFor (ruledRow row))
-        (now (public .entry)) (now (head .entry) ++ (now (context .entry) ++ now (message .entry))) (now (seal .entry))) r ⌝ }
+        (now (public .entry)) (now (head .entry) ++ (now (context .entry) ++ now (message .entry)))
+        (now (seal .entry))) r ⌝ }
 {
     let n = row.n;
     let pointed = aim(
@@ -52,7 +53,8 @@ pub fn checked_root(
 ) -> Walked
     requires { ⌜ Ready (ruledRow row) × (length (now public) ≡ row .public) × (length (now seal) ≡ row .seal) ⌝ }
     ensures { λ r. ⌜ Leads (row .n) (checkedRoot (ruledRow row) (familyFor (ruledRow row))
-        (now (public .entry)) (now (head .entry) ++ (now (context .entry) ++ now (message .entry))) (now (seal .entry))) r ⌝ }
+        (now (public .entry)) (now (head .entry) ++ (now (context .entry) ++ now (message .entry)))
+        (now (seal .entry))) r ⌝ }
 {
     let k = row.k as usize;
     let mut indices = [0u32; 35];

@@ -186,7 +186,8 @@ digits-are set value digits a digits-after read done =
 pub accepted-exactly : (set : ℕ) (public message seal : Bytes) (v : Verdict)
     → Checked (rowOf set) public message seal v
     → (number (v .answer) ≡ 0) ↔ Under (rowOf set) (λ r.
-    (length public ≡ r .publicBytes) × (Fitting message × Accepted r (familyFor r) public (frame (plain [] message)) seal))
+    (length public ≡ r .publicBytes)
+    × (Fitting message × Accepted r (familyFor r) public (frame (plain [] message)) seal))
 accepted-exactly set public message seal v checked =
     Iff·trans
     (done-when (checkLines (rowOf set) public message seal) refl (number (v .answer)) (checked .answered)) (
@@ -244,7 +245,8 @@ module _ (set : ℕ) (skSeed skPrf pkSeed public-was secret-was : Bytes) (a : An
           ap length (ks .0)
           ∙ publicKey-long r (familyFor r) skSeed pkSeed (pk-long r e) (rowOf-legal set r e .1)
 
-      accepted : (r : Row) → rowOf set ≡ some r → Pair r → Accepted r (familyFor r) public (frame (plain [] message)) seal
+      accepted : (r : Row) → rowOf set ≡ some r → Pair r
+          → Accepted r (familyFor r) public (frame (plain [] message)) seal
       accepted r e ks =
           rw (
             ks .0,
@@ -266,8 +268,8 @@ module _ (set : ℕ) (skSeed skPrf pkSeed public-was secret-was : Bytes) (a : An
       (λ r e q.
       one-of-three r (rowOf-legal set r e .1) (familyFor r) skSeed pkSeed (frame (plain [] message)) seal
       (pk-long r e)
-      (subst (λ (x : Bytes). Accepted r (familyFor r) x (frame (plain [] message)) seal) (at-row (rowOf set) _ r e keys .0)
-      (q .1 .1)))
+      (subst (λ (x : Bytes). Accepted r (familyFor r) x (frame (plain [] message)) seal)
+      (at-row (rowOf set) _ r e keys .0) (q .1 .1)))
       (accepted-exactly set public message seal v checked .0 accepted)
 
 -- ==== "any pair of outcomes allowed by one promise is a single outcome"

@@ -72,7 +72,8 @@ module _ (r : Row) (f : Family (r .n) (r .m)) (pk : Bytes) (at : Pointed) (seal 
         ∙ sym (ap (λ x. count (of F) (x .calls)) root-cut ∙ count-append (of F) (low .calls) (up (low .result) .calls))
 
 -- The calls fit a word, at whatever places they are made.
-module _ (r : Row) (f : Family (r .n) (r .m)) (pk seal : Bytes) (ready : Ready r) (long : length seal ≡ r .sealBytes) where
+module _ (r : Row) (f : Family (r .n) (r .m)) (pk seal : Bytes) (ready : Ready r)
+    (long : length seal ≡ r .sealBytes) where
   pub few-calls : (ds : List ℕ) → length ds ≡ r .k → (t l u i : ℕ) (v : Bytes) {below above : ℕ}
       → below ≡ count (of F) (forestRoot (under f pk) t l (r .a) ds (forestPart r seal) .calls)
       → above ≡ count (of F) (layersRoot (under f pk) (r .h') (r .d - 1) 0 u i v (rest r seal) .calls)
