@@ -31,7 +31,7 @@ passed-line n t ls e g = g ∙ ap₂ (λ (b : Bool) (x : ℕ). cond b x n) (sym 
 -- ---- Lines before others
 
 -- Both tests of a joined one passed.
-both : (a b : Bool) → (a && b) ≡ true → (a ≡ true) × (b ≡ true)
+pub both : (a b : Bool) → (a && b) ≡ true → (a ≡ true) × (b ≡ true)
 both true b e = (refl, e)
 both false b e = absurd (false≢true e)
 

@@ -18,11 +18,11 @@ pub record Tells (b : Bool) (P : Type 0) : Type 0 where
   pub tell : P → b ≡ true
 
 -- The two ways to say that a test passed.
-holds : (b : Bool) → T b → b ≡ true
+pub holds : (b : Bool) → T b → b ≡ true
 holds true t = refl
 holds false t = absurd t
 
-test : (b : Bool) → b ≡ true → T b
+pub test : (b : Bool) → b ≡ true → T b
 test b e = subst T (sym e) tt
 
 -- What the tests of numbers tell.

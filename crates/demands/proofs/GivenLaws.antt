@@ -8,22 +8,18 @@ use mathlib.Core.List.{List, [], _∷_}
 use Prim.Native.Nat.{ℕ, _<_}
 use native.Mathlib.Nat.{lt-of-not-le, not-le-of-lt}
 use native.Mathlib.Omega.{arith}
-use lib.Dec.{T, eqb, ltb, ltb→lt, lt→ltb}
+use lib.Dec.{eqb, ltb, ltb→lt, lt→ltb}
 use Rattle.answers.specs.Tests.{passes, Holds, Fails}
 use Rattle.answers.specs.Lines.{Line, first, NoneApplies, lacks}
-use Rattle.answers.proofs.TestLaws.{Tells, eqb-tells, not-tells, and-tells, or-tells, tells, denies}
-use Rattle.answers.proofs.LineLaws.{zero-given}
+use Rattle.answers.proofs.TestLaws.{Tells, holds, test, eqb-tells, not-tells, and-tells, or-tells, tells, denies}
+use Rattle.answers.proofs.LineLaws.{both, zero-given}
 use Rattle.demands.specs.Table.{Before, Given, none-applies, first-applies, Applies, applies, First, before, noneBefore, ordered}
 
 -- ---- What the truth values tell
 
-holds : (b : Bool) → T b → b ≡ true
-holds true t = refl
-holds false t = absurd t
-
 ltb-tells : (m n : ℕ) → Tells (ltb m n) (m < n)
 ltb-tells m n = record {
-  told = λ e. ltb→lt m n (subst T (sym e) tt);
+  told = λ e. ltb→lt m n (test (ltb m n) e);
   tell = λ h. holds (ltb m n) (lt→ltb m n h);
 }
 
@@ -41,11 +37,6 @@ applies-tells (l ∷ ls) k =
     ((l .number ≡ k) × Fails (l .test)) (Applies ls k)
     (and-tells (eqb (l .number) k) (not (passes (l .test))) (l .number ≡ k) (Fails (l .test))
     (eqb-tells (l .number) k) (denies (l .test))) (applies-tells ls k)
-
--- Both tests of a joined one passed.
-both : (a b : Bool) → (a && b) ≡ true → (a ≡ true) × (b ≡ true)
-both true b e = (refl, e)
-both false b e = absurd (false≢true e)
 
 -- ---- The first line that applies
 
