@@ -20,6 +20,7 @@ use Rattle.rules.specs.Seal.{digestOf, part}
 use Rattle.rules.specs.Check.{checkedValue}
 use Rattle.counts.specs.Counts.{cost, stepsOf, fCalls, costsOf, callsByCost, bounds}
 use Rattle.rules.proofs.DigitLaws.{digits-value, base2b-whole}
+use Rattle.rules.proofs.SetLaws.{checksum-fits}
 use Rattle.rules.proofs.ChecksumLaws.{checksum-le, checksum-lt, chain-digits}
 
 -- ---- The cost of one value
@@ -124,7 +125,7 @@ module _ (r : Row) (legal : Legal r) (f : Family (r .n) (r .m)) where
   unfolding stepsOf
   steps-least pk at seal zero = omega arith
   steps-least pk at seal (suc j) =
-      omega (arith, steps-least pk at seal j, least (r .n) (legal .checksum-fits) (checkedValue r f pk at seal j))
+      omega (arith, steps-least pk at seal j, least (r .n) (checksum-fits r legal) (checkedValue r f pk at seal j))
 
   steps-greatest : (pk : Bytes) (at : Pointed) (seal : Bytes) (j : ℕ)
       → stepsOf r f pk at seal j ≤ cost (30 * r .n) * j
@@ -135,7 +136,7 @@ module _ (r : Row) (legal : Legal r) (f : Family (r .n) (r .m)) where
         arith,
         steps-greatest pk at seal j,
         mul-suc (cost (30 * r .n)) j,
-        greatest (r .n) (legal .checksum-fits) (checkedValue r f pk at seal j),
+        greatest (r .n) (checksum-fits r legal) (checkedValue r f pk at seal j),
       )
 
   pub F-least : (public M seal : Bytes) → r .k + 45 * r .d ≤ fCalls r f public M seal
@@ -152,7 +153,7 @@ module _ (r : Row) (legal : Legal r) (f : Family (r .n) (r .m)) where
   unfolding stepsOf costsOf
   steps-cost pk at seal zero = refl
   steps-cost pk at seal (suc j) =
-      ap₂ _+_ (steps-cost pk at seal j) (value-cost (r .n) (legal .checksum-fits) (checkedValue r f pk at seal j))
+      ap₂ _+_ (steps-cost pk at seal j) (value-cost (r .n) (checksum-fits r legal) (checkedValue r f pk at seal j))
 
   pub by-cost : (public M seal : Bytes) → fCalls r f public M seal ≡ callsByCost r f public M seal
   unfolding fCalls callsByCost

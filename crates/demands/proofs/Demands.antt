@@ -1,7 +1,7 @@
 -- What the examiner asked for, of each of the desk's promises: demands 1 to 3, single outcomes, and the F count.
 -- The demands' own words stand in quotation marks. Every theorem holds for whatever bytes and lengths were handed over.
 -- Assumes nothing.
-use mathlib.Core.Path.{_≡_, refl, sym, ap, _∙_, subst}
+use mathlib.Core.Path.{_≡_, refl, sym, ap, ap₂, _∙_, subst}
 use mathlib.Core.Logic.{_↔_, Iff·trans, _≢_, _⊎_, inl, inr}
 use mathlib.Core.Bool.{true}
 use mathlib.Core.List.{List, []}
@@ -9,7 +9,7 @@ use mathlib.Core.Option.{Option, some, none}
 use Prim.Native.Nat.{ℕ, zero, suc, _+_, _*_, _≤_, _<_}
 use native.Mathlib.Nat.{not-le-of-lt}
 use native.Mathlib.Omega.{arith}
-use lib.ListN.{length}
+use lib.ListN.{length, take, drop}
 use Rattle.rules.specs.Places.{Bytes}
 use Rattle.rules.specs.Calls.{F, of}
 use Rattle.rules.specs.Chains.{chains, chainDigits}
@@ -32,14 +32,16 @@ use Rattle.answers.specs.Lines.{Line, first, NoneApplies}
 use Rattle.making.specs.Keys.{keysLines, KeysMade}
 use Rattle.sealing.specs.Seals.{sealLines, Sealed}
 use Rattle.checking.specs.Checks.{checkLines, checkAnswer, checkCalls, Checked}
-use Rattle.part_reading.specs.Parts.{partLines, partAnswer, partGiven}
+use Rattle.part_reading.specs.Parts.{partLines, partAnswer, partGiven, startGiven, lengthGiven}
 use Rattle.digit_reading.specs.Digits.{digitsLines, DigitsRead}
 use Rattle.demands.specs.Table.{Given, Applies, applies, noneBefore, ordered, Unlisted, Fitting}
 use Rattle.answers.specs.declared.Answer.{Answer}
 use Rattle.checking.specs.declared.Verdict.{Verdict}
+use Rattle.part_reading.specs.declared.Extent.{Extent}
 use Rattle.answers.proofs.TestLaws.{at-row}
 use Rattle.answers.proofs.AnswerLaws.{settled-made, settled-kept, number-injective}
 use Rattle.checking.proofs.CheckingLaws.{walked-calls, no-calls}
+use Rattle.part_reading.proofs.PartLaws.{part-cut, part-inside}
 use Rattle.demands.proofs.RowLaws.{found, mapped, no-row}
 use Rattle.demands.proofs.GivenLaws.{answer-given, answer-computed, done-when}
 
@@ -124,6 +126,17 @@ module _ (set : ℕ) (seal : Bytes) (k : ℕ) (a : Answer) (answered : number a 
   pub part-empty : (given-part : Bytes) → given-part ≡ partGiven (rowOf set) seal k → number a ≢ 0 → given-part ≡ []
   part-empty given-part read refused =
       read ∙ settled-kept _ (rowOf set) _ [] (λ z. refused (answered ∙ z))
+
+-- "A part is handed out as it lies in the seal": as many bytes as are told, from where it is told to start, and within
+-- the seal; with a refusal none.
+pub part-lies : (set : ℕ) (seal : Bytes) (k start long : ℕ) (given-part : Bytes)
+    → start ≡ startGiven (rowOf set) seal k → long ≡ lengthGiven (rowOf set) seal k
+    → given-part ≡ partGiven (rowOf set) seal k
+    → (given-part ≡ take long (drop start seal)) × (start + long ≤ length seal)
+part-lies set seal k start long given-part s l p = (
+  p ∙ part-cut (rowOf set) seal k ∙ ap₂ (λ (x y : ℕ). take x (drop y seal)) (sym l) (sym s),
+  rw (s, l) (part-inside (rowOf set) seal k (λ r e. rowOf-legal set r e .1)),
+)
 
 -- ---- Chain digits
 
@@ -302,6 +315,17 @@ pub single-part : (set : ℕ) (seal : Bytes) (k : ℕ) (a b : Answer) (p q : Byt
     → number a ≡ partAnswer (rowOf set) seal k → number b ≡ partAnswer (rowOf set) seal k
     → p ≡ partGiven (rowOf set) seal k → q ≡ partGiven (rowOf set) seal k → (a ≡ b) × (p ≡ q)
 single-part set seal k a b p q one other this that = (number-injective a b (one ∙ sym other), this ∙ sym that)
+
+pub single-extent : (set : ℕ) (seal : Bytes) (k : ℕ) (p q : Extent)
+    → (p .start ≡ startGiven (rowOf set) seal k) × (p .length ≡ lengthGiven (rowOf set) seal k)
+    → (q .start ≡ startGiven (rowOf set) seal k) × (q .length ≡ lengthGiven (rowOf set) seal k) → p ≡ q
+single-extent set seal k p q one other = λ i. record { start = same-start i; length = same-length i }
+  where
+    same-start : p .start ≡ q .start
+    same-start = one .0 ∙ sym (other .0)
+
+    same-length : p .length ≡ q .length
+    same-length = one .1 ∙ sym (other .1)
 
 pub single-digits : (set : ℕ) (value : Bytes) (digits : List ℕ) (a b : Answer) (p q : List ℕ)
     → DigitsRead (rowOf set) value digits a p → DigitsRead (rowOf set) value digits b q → (a ≡ b) × (p ≡ q)

@@ -21,6 +21,7 @@ use Rattle.rules.specs.Keys.{piece, keyRoot, publicKey}
 use Rattle.rules.specs.Seal.{digestOf, written, sealWith, partStart, partLength, part, heldValue}
 use Rattle.rules.specs.Check.{layersPart, rootAt, checkedRoot, Accepted, checkedValue}
 use Rattle.findings.specs.Findings.{Collision, OwnCall, of-tree, of-forest, LowStart, holders, pointsTo, OneOfThree, own-seal, collision, low-start}
+use Rattle.rules.proofs.SetLaws.{checksum-fits}
 use Rattle.rules.proofs.ChecksumLaws.{lower-digit}
 use Rattle.findings.proofs.FindingLaws.{bytes-discrete, Owns, before, after, then, found}
 use Rattle.findings.proofs.LayerFindings.{Shows, holder-shows, layer-shows}
@@ -97,7 +98,7 @@ module _ (r : Row) (legal : Legal r) (f : Family (r .n) (r .m)) (sk pk : Bytes) 
 
     low : (j : ℕ) → j < r .d → Shown j → checked j ≢ own j → LowStart r f pk at sk seal held
     low j h s differ =
-        let c = lower-digit (r .n) (legal .checksum-fits) (checked j) (own j) (checked-sized r f pk at seal j)
+        let c = lower-digit (r .n) (checksum-fits r legal) (checked j) (own j) (checked-sized r f pk at seal j)
         (own-sized j) differ in
         record {
           layer = j;

@@ -3,7 +3,7 @@
 use mathlib.Core.Path.{_≡_, refl, sym, ap, ap₂, _∙_}
 use mathlib.Core.List.{[]}
 use mathlib.Core.Option.{Option, some, none}
-use Prim.Native.Nat.{ℕ, suc, _+_, _-_, _*_, _≤_}
+use Prim.Native.Nat.{ℕ, zero, suc, _+_, _-_, _*_, _≤_}
 use native.Mathlib.Nat.{mul-le-mul}
 use native.Mathlib.Omega.{arith}
 use lib.ListN.{length, take, drop}
@@ -11,7 +11,8 @@ use Rattle.lists.proofs.Lent.{lent}
 use Rattle.rules.specs.Places.{Bytes}
 use Rattle.rules.specs.Layers.{layerBytes}
 use Rattle.rules.specs.Forest.{forestBytes}
-use Rattle.rules.specs.Sets.{Row}
+use Rattle.rules.specs.Sets.{Row, Legal}
+use Rattle.rules.proofs.SealLaws.{part-fits}
 use Rattle.rules.specs.Seal.{part, partStart, partLength}
 use Rattle.answers.specs.Answers.{settled}
 use Rattle.answers.specs.Lines.{first}
@@ -70,6 +71,37 @@ module _ (seal : Bytes) (k : ℕ) where
     part-there z =
         let none-applies = zero-given (partLines (some r) (length seal) k) refl .0 z in
         (none-applies .1 .0 r refl, none-applies .1 .1 .0 r refl)
+
+-- ---- A part lies where it is told
+
+-- The bytes from the start told, as many as the length told, are the part.
+pub part-cut : (row : Option Row) (seal : Bytes) (k : ℕ)
+    → partGiven row seal k ≡ take (lengthGiven row seal k) (drop (startGiven row seal k) seal)
+unfolding settled part
+part-cut row seal k = by-answer (partAnswer row seal k) row
+  where
+    by-answer : (n : ℕ) (row : Option Row) → settled n row (λ r. part r k seal) []
+        ≡ take (settled n row (λ r. partLength r k) 0) (drop (settled n row (λ r. partStart r k) 0) seal)
+    by-answer zero none = refl
+    by-answer zero (some r) = refl
+    by-answer (suc n) row = refl
+
+-- They lie within the seal.
+pub part-inside : (row : Option Row) (seal : Bytes) (k : ℕ) → ((r : Row) → row ≡ some r → Legal r)
+    → startGiven row seal k + lengthGiven row seal k ≤ length seal
+unfolding settled
+part-inside row seal k legal = by-answer (partAnswer row seal k) refl row refl
+  where
+    inside : (r : Row) → row ≡ some r → partAnswer row seal k ≡ 0 → partStart r k + partLength r k ≤ length seal
+    inside r e z =
+        let there = part-there seal k r (ap (λ (o : Option Row). partAnswer o seal k) (sym e) ∙ z) in
+        omega (arith, there .0, part-fits r (legal r e) k (omega (arith, there .1)))
+
+    by-answer : (n : ℕ) → partAnswer row seal k ≡ n → (o : Option Row) → row ≡ o
+        → settled n o (λ r. partStart r k) 0 + settled n o (λ r. partLength r k) 0 ≤ length seal
+    by-answer zero z none e = omega arith
+    by-answer zero z (some r) e = inside r e z
+    by-answer (suc n) z o e = omega arith
 
 -- From part 2 on the parts are the layers'.
 later : (k : ℕ) → (k ≡ 0 → ⊥) → (k ≡ 1 → ⊥) → k ≡ suc (suc (k - 2))

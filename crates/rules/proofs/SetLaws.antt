@@ -1,13 +1,15 @@
--- Every row of the table is legal: one test, worked out over the whole table, and one law that turns it into `Legal`.
+-- Every row of the table is legal: one test, worked out over the whole table, and one law that turns it into `Legal`;
+-- and three digits hold a legal row's checksums.
 -- Assumes nothing.
 use mathlib.Core.Path.{_≡_, refl, sym, ap, _∙_, subst}
-use mathlib.Core.Bool.{Bool, true, false, _&&_, cond}
+use mathlib.Core.Bool.{Bool, true, false, not, _&&_, cond}
 use mathlib.Core.List.{List, [], _∷_, List·Memᴰ}
 use mathlib.Core.Option.{Option, some, none}
-use Prim.Native.Nat.{ℕ, _+_, _-_, _*_, _/_, _^_}
+use Prim.Native.Nat.{ℕ, zero, suc, _+_, _-_, _*_, _/_, _^_, _<_}
+use native.Mathlib.Nat.{zero-lt-suc, one-le-pow, pow-suc}
 use native.Mathlib.Omega.{arith}
-use lib.Dec.{T, ltb, eqb, ltb→lt, eqb→eq}
-use Rattle.rules.specs.Chains.{chains}
+use lib.Dec.{T, ltb, leb, eqb, ltb→lt, nleb→lt, eqb→eq}
+use Rattle.rules.specs.Chains.{chains, moreDigits, checksumDigits}
 use Rattle.rules.specs.Sets.{Row, Legal, bytesFor, rows, good, every, find, rowOf}
 
 -- The halves of a test that has two.
@@ -34,11 +36,11 @@ legal r t =
       public-long = eqb→eq _ _ (first (eqb (r .publicBytes) (2 * r .n)) _ t3);
       secret-long = eqb→eq _ _ (first (eqb (r .secretBytes) (4 * r .n)) _ t4);
       seal-long = eqb→eq _ _ (first (eqb (r .sealBytes) _) _ t5);
-      checksum-fits = ltb→lt _ _ (second (eqb (r .sealBytes) _) _ t5);
+      checksum-digits = eqb→eq _ _ (second (eqb (r .sealBytes) _) _ t5);
     }
 
 pub every-row : T (every good rows)
-unfolding rows every good
+unfolding rows every good checksumDigits moreDigits
 every-row = tt
 
 -- A row that is found has the number asked for, and passes every test that all rows pass.
@@ -76,6 +78,28 @@ pub rowOf-passes : (test : Row → Bool) → T (every test rows) → (number : �
     → (r .number ≡ number) × T (test r)
 unfolding rowOf
 rowOf-passes test t number r e = found test number rows r t e
+
+-- A number below the capacity and the turns that are left has no more digits than algorithm 1 gives, since a turn raises
+-- the capacity.
+held : (turns len2 most : ℕ) → most < 16 ^ len2 + turns → most < 16 ^ moreDigits turns len2 (16 ^ len2) most
+unfolding moreDigits
+held zero len2 most h = omega (arith, h)
+held (suc turns) len2 most h =
+    by-test (leb (16 ^ len2) most) refl (rw (pow-suc 16 len2) at (held turns (suc len2) most (raised (one-le-pow len2 16 (zero-lt-suc 15)))))
+  where
+    raised : 0 < 16 ^ len2 → most < 16 ^ suc len2 + turns
+    raised p = rw (pow-suc 16 len2) (omega (arith, h, p))
+
+    by-test : (b : Bool) → leb (16 ^ len2) most ≡ b → most < 16 ^ moreDigits turns (suc len2) (16 ^ len2 * 16) most
+        → most < 16 ^ cond b (moreDigits turns (suc len2) (16 ^ len2 * 16) most) len2
+    by-test true e later = later
+    by-test false e later = nleb→lt (16 ^ len2) most (subst (λ (b : Bool). T (not b)) (sym e) tt)
+
+-- Three digits hold any checksum of a legal row.
+pub checksum-fits : (r : Row) → Legal r → 30 * r .n < 16 ^ 3
+unfolding checksumDigits
+checksum-fits r legal =
+    subst (λ (x : ℕ). 30 * r .n < 16 ^ x) (legal .checksum-digits) (held (30 * r .n) 1 (30 * r .n) (omega arith))
 
 pub rowOf-legal : (number : ℕ) (r : Row) → rowOf number ≡ some r → (r .number ≡ number) × Legal r
 rowOf-legal number r e =

@@ -5,10 +5,12 @@ use mathlib.Core.List.{_++_}
 use Rattle.rules.specs.Digits.{value, digits, base2b}
 use Rattle.rules.specs.Places.{words, address}
 use Rattle.rules.specs.Chains.{steps, ownDigits, checksum, chainDigits}
-use Rattle.rules.specs.Digest.{lastBits}
-use Rattle.rules.specs.Layers.{treeAt, leafAt}
+use Rattle.rules.specs.Digest.{lastBits, pointed}
+use Rattle.rules.specs.Sets.{rows, find, rowOf}
 use Rattle.rules.specs.Starred.{table, Holds}
 
 pub starred : Holds table
-unfolding table value digits base2b words address steps ownDigits checksum chainDigits lastBits treeAt leafAt
-starred = (refl, (refl, (refl, (refl, (refl, (refl, (refl, (refl, (refl, (refl, (refl, tt)))))))))))
+unfolding table value digits base2b words address steps ownDigits checksum chainDigits rows find rowOf lastBits pointed
+starred =
+    (refl, (refl, (refl, (refl, (refl, (refl, (refl, (refl, (refl, (refl, (refl, (refl, (refl, (refl, (refl, (refl,
+    (refl, (refl, tt))))))))))))))))))

@@ -1,13 +1,27 @@
 -- One-time seals: chain digits, chains, a leaf, what a seal shows, and the leaf from a seal (FIPS 205, section 5).
 -- Assumes nothing.
+use mathlib.Core.Bool.{cond}
 use mathlib.Core.List.{List, [], _∷_, _++_}
 use Prim.Native.Nat.{ℕ, zero, suc, _+_, _-_, _*_}
+use lib.Dec.{leb}
 use lib.ListN.{take, drop}
 use Rattle.rules.specs.Digits.{base2b, toByte}
 use Rattle.rules.specs.Places.{Bytes, Place, chainStep, chainEnds, chainSecret, address}
 use Rattle.rules.specs.Calls.{F, T, PRF, Hashes, Run, return, _>>=_, ask}
 
--- Equation 5.4, len: a value of n bytes has 2n digits of its own and 3 of its checksum.
+-- Algorithm 1, gen_len2, lines 6 to 10, for digits of base 16: from `len2` digits on, whose numbers lie below
+-- `capacity`, the number of digits that numbers up to `most` have. There are at most `turns` turns.
+unfoldable pub moreDigits : (turns len2 capacity most : ℕ) → ℕ
+moreDigits zero len2 capacity most = len2
+moreDigits (suc turns) len2 capacity most =
+    cond (leb capacity most) (moreDigits turns (suc len2) (capacity * 16) most) len2
+
+-- Algorithm 1: the digits of the checksum of a value of n bytes, which is at most 15 for each of 2n digits.
+unfoldable pub checksumDigits : (n : ℕ) → ℕ
+checksumDigits n = moreDigits (30 * n) 1 16 (30 * n)
+
+-- Equation 5.4, len: a value of n bytes has 2n digits of its own and 3 of its checksum. `Legal` asks that algorithm 1
+-- gives 3.
 abbrev pub chains : (n : ℕ) → ℕ
 chains n = 2 * n + 3
 

@@ -17,14 +17,20 @@ layerBytes n h' = chainBytes n + h' * n
 
 -- ---- Which tree and which leaf a layer has, counted from layer 0, whose tree and leaf a digest points to
 
--- One layer up, leaf = tree mod 2^h' and tree = tree div 2^h'.
+-- One layer up, leaf = tree mod 2^h' and tree = tree div 2^h': algorithms 12, lines 7 and 8, and 13, lines 6 and 7.
+abbrev pub leafAbove : (h' tree : ℕ) → ℕ
+leafAbove h' tree = tree % 2 ^ h'
+
+abbrev pub treeAbove : (h' tree : ℕ) → ℕ
+treeAbove h' tree = tree / 2 ^ h'
+
 unfoldable pub treeAt : (h' tree layer : ℕ) → ℕ
 treeAt h' tree zero = tree
-treeAt h' tree (suc j) = treeAt h' tree j / 2 ^ h'
+treeAt h' tree (suc j) = treeAbove h' (treeAt h' tree j)
 
 unfoldable pub leafAt : (h' tree leaf layer : ℕ) → ℕ
 leafAt h' tree leaf zero = leaf
-leafAt h' tree leaf (suc j) = treeAt h' tree j % 2 ^ h'
+leafAt h' tree leaf (suc j) = leafAbove h' (treeAt h' tree j)
 
 -- ---- The tree of a layer
 
@@ -57,7 +63,7 @@ module _ (w : Hashes) where
     layersSeal skSeed (suc above) layer tree i M = do
       sig ← layerSeal skSeed layer tree i M
       root ← layerRoot layer tree i sig M
-      rest ← layersSeal skSeed above (suc layer) (tree / 2 ^ h') (tree % 2 ^ h') root
+      rest ← layersSeal skSeed above (suc layer) (treeAbove h' tree) (leafAbove h' tree) root
       return (sig ++ rest)
 
     -- Algorithm 13, ht_verify, up to its comparison.
@@ -65,4 +71,4 @@ module _ (w : Hashes) where
     layersRoot zero layer tree i M sig = layerRoot layer tree i sig M
     layersRoot (suc above) layer tree i M sig = do
       root ← layerRoot layer tree i (take (layerBytes (w .n) h') sig) M
-      layersRoot above (suc layer) (tree / 2 ^ h') (tree % 2 ^ h') root (drop (layerBytes (w .n) h') sig)
+      layersRoot above (suc layer) (treeAbove h' tree) (leafAbove h' tree) root (drop (layerBytes (w .n) h') sig)

@@ -5,9 +5,9 @@ use mathlib.Core.Path.{_≡_}
 use mathlib.Core.Bool.{Bool, true, false, _&&_, cond}
 use mathlib.Core.List.{List, [], _∷_, _++_}
 use mathlib.Core.Option.{Option, some, none}
-use Prim.Native.Nat.{ℕ, _+_, _-_, _*_, _/_, _^_, _<_}
+use Prim.Native.Nat.{ℕ, _+_, _-_, _*_, _/_, _<_}
 use lib.Dec.{ltb, eqb}
-use Rattle.rules.specs.Chains.{chains}
+use Rattle.rules.specs.Chains.{chains, checksumDigits}
 
 -- A row of the table of sets: its number, table 2's parameters, and the bytes of a public key, a secret key and a seal.
 pub record Row : Type 0 where
@@ -49,7 +49,7 @@ rows =
 abbrev pub bytesFor : (bits : ℕ) → ℕ
 bytesFor bits = (bits + 7) / 8
 
--- What every theorem needs of a row. The last line says that three digits hold any checksum: 30·n is the greatest.
+-- What every theorem needs of a row. The last line says that a checksum has three digits.
 pub record Legal (r : Row) : Type 0 where
   pub layers : r .h ≡ r .d * r .h'
   pub some-layer : 0 < r .d
@@ -57,7 +57,7 @@ pub record Legal (r : Row) : Type 0 where
   pub public-long : r .publicBytes ≡ 2 * r .n
   pub secret-long : r .secretBytes ≡ 4 * r .n
   pub seal-long : r .sealBytes ≡ (1 + r .k * (r .a + 1) + r .h + chains (r .n) * r .d) * r .n
-  pub checksum-fits : 30 * r .n < 16 ^ 3
+  pub checksum-digits : checksumDigits (r .n) ≡ 3
 
 -- The test of a row: each line of `Legal`.
 unfoldable pub good : Row → Bool
@@ -68,7 +68,7 @@ good r =
     && (eqb (r .publicBytes) (2 * r .n)
     && (eqb (r .secretBytes) (4 * r .n)
     && (eqb (r .sealBytes) ((1 + r .k * (r .a + 1) + r .h + chains (r .n) * r .d) * r .n)
-    && ltb (30 * r .n) (16 ^ 3))))))
+    && eqb (checksumDigits (r .n)) 3)))))
 
 -- Every row passes a test.
 unfoldable pub every : (test : Row → Bool) → List Row → Bool

@@ -2,6 +2,7 @@
 -- Assumes nothing.
 use mathlib.Core.Path.{sym, ap, _∙_}
 use Prim.Native.Nat.{_*_, _^_, _<_}
+use Rattle.rules.proofs.SetLaws.{checksum-fits}
 use Rattle.rows.specs.Rows.{ruledRow}
 use Rattle.digit_reading.proofs.DigitsLaws.{digits-done, digits-refused, digits-long}
 use borrow.Author.Needs.{needs}
@@ -15,7 +16,7 @@ chain-digits-requires c κs =
     let z = sym (c .before .before .before .digits-answer .ensures) ∙ sym (c .before .before .number-of .ensures) ∙
     c .before .if1 .taken in
     let l = digits-long (a .value .now) (a .digits .now) (ruledRow (a .row)) z in
-    (rw (l .0) (s .pre .legal .checksum-fits), rw (l .0) (l .1))
+    (rw (l .0) (checksum-fits (ruledRow (a .row)) (s .pre .legal)), rw (l .0) (l .1))
 
 returns : tie.Need-returns
 returns c =
