@@ -1,0 +1,2 @@
+-- That the key's own call at an address is one call, in reading order.
+pub mod AddressLaws

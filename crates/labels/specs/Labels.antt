@@ -1,0 +1,59 @@
+-- The places of a key, each with the function that is called there and its input.
+-- Assumes nothing.
+use mathlib.Core.Bool.{Bool, _&&_}
+use mathlib.Core.Path.{_≡_}
+use mathlib.Core.List.{[], _++_}
+use Prim.Native.Nat.{ℕ, zero, suc, _+_, _-_, _*_, _^_, _≤_, _<_}
+use lib.Dec.{leb, ltb}
+use Rattle.rules.specs.Places.{Bytes, Place, chainStep, chainEnds, treeNode, forestNode, forestRoots, chainSecret, forestSecret, address}
+use Rattle.rules.specs.Calls.{Function, F, H, T, PRF, Call, callOf, Hashes}
+use Rattle.rules.specs.Chains.{chains, ends, ownChain}
+use Rattle.rules.specs.Trees.{Tree, node}
+use Rattle.rules.specs.Layers.{layerTree}
+use Rattle.rules.specs.Forest.{forestTree, roots}
+use Rattle.rules.specs.Sets.{Row}
+
+-- ---- Which places a key has
+
+-- A tree of a layer: the topmost layer has one, and each layer 2^h' times as many as the one above it.
+pub record LegalTree (r : Row) (layer tree : ℕ) : Type 0 where
+  pub layer-lt : layer < r .d
+  pub tree-lt : tree < 2 ^ (r .h' * (r .d - suc layer))
+
+-- A leaf of a tree of a layer: a key pair of section 5.
+pub record LegalLeaf (r : Row) (layer tree pair : ℕ) : Type 0 where
+  pub of-tree : LegalTree r layer tree
+  pub pair-lt : pair < 2 ^ r .h'
+
+-- A forest: one for each leaf of layer 0.
+pub record LegalForest (r : Row) (tree pair : ℕ) : Type 0 where
+  pub tree-lt : tree < 2 ^ (r .h - r .h')
+  pub pair-lt : pair < 2 ^ r .h'
+
+-- The words of the places of a row's keys: figures 3 to 9. Height 0 of a layer's tree is a leaf, which has its place by
+-- its chains' ends. The forest's nodes at a height are those of k trees, counted through.
+abbrev pub LegalPlace : Row → Place → Type 0
+LegalPlace r (chainStep l t p c s) = LegalLeaf r l t p × (c < chains (r .n)) × (s < 15)
+LegalPlace r (chainEnds l t p) = LegalLeaf r l t p
+LegalPlace r (treeNode l t z i) = LegalTree r l t × (0 < z) × (z ≤ r .h') × (i < 2 ^ (r .h' - z))
+LegalPlace r (forestNode t p z i) = LegalForest r t p × (z ≤ r .a) × (i < r .k * 2 ^ (r .a - z))
+LegalPlace r (forestRoots t p) = LegalForest r t p
+LegalPlace r (chainSecret l t p c) = LegalLeaf r l t p × (c < chains (r .n))
+LegalPlace r (forestSecret t p i) = LegalForest r t p × (i < r .k * 2 ^ r .a)
+
+-- The words of an address hold all of them: layer and index have 4 bytes, the tree has 12 (figure 2).
+pub record InWords (r : Row) : Type 0 where
+  pub layers : r .d ≤ 2 ^ 32
+  pub trees : r .h - r .h' ≤ 96
+  pub pairs : r .h' ≤ 32
+  pub heights : r .a < 2 ^ 32
+  pub indices : r .k * 2 ^ r .a ≤ 2 ^ 32
+
+-- The test of a row: each line of `InWords`.
+unfoldable pub inWords : Row → Bool
+inWords r =
+    leb (r .d) (2 ^ 32)
+    && (leb (r .h - r .h') 96
+    && (leb (r .h') 32
+    && (ltb (r .a) (2 ^ 32)
+    && leb (r .k * 2 ^ r .a) (2 ^ 32))))
