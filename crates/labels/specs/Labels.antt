@@ -57,3 +57,43 @@ inWords r =
     && (leb (r .h') 32
     && (ltb (r .a) (2 ^ 32)
     && leb (r .k * 2 ^ r .a) (2 ^ 32))))
+
+-- ---- What is called at a place
+
+-- The function: F on a chain and at a forest's leaf, T over ends and roots, H at a node, PRF for a secret value.
+abbrev pub functionAt : Place → Function
+functionAt (chainStep l t p c s) = F
+functionAt (chainEnds l t p) = T
+functionAt (treeNode l t z i) = H
+functionAt (forestNode t p zero i) = F
+functionAt (forestNode t p (suc z) i) = H
+functionAt (forestRoots t p) = T
+functionAt (chainSecret l t p c) = PRF
+functionAt (forestSecret t p i) = PRF
+
+-- The key's own input: a chain's value, the ends or the roots joined, two children joined, a secret value, the secret
+-- seed. At height 0 of a layer's tree nothing is called.
+module _ (w : Hashes) (a k : ℕ) (skSeed : Bytes) where
+  abbrev childrenOf : Tree → (z i : ℕ) → Bytes
+  childrenOf tree z i = node w tree z (2 * i) .result ++ node w tree z (2 * i + 1) .result
+
+  unfoldable pub inputAt : Place → Bytes
+  inputAt (chainStep l t p c s) = ownChain w l t p skSeed c s
+  inputAt (chainEnds l t p) = ends w l t p skSeed 0 (chains (w .n)) .result
+  inputAt (treeNode l t zero i) = []
+  inputAt (treeNode l t (suc z) i) = childrenOf (layerTree w skSeed l t) z i
+  inputAt (forestNode t p zero i) = w .hash PRF (address (forestSecret t p i)) skSeed
+  inputAt (forestNode t p (suc z) i) = childrenOf (forestTree w t p skSeed) z i
+  inputAt (forestRoots t p) = roots w t p a skSeed 0 k .result
+  inputAt (chainSecret l t p c) = skSeed
+  inputAt (forestSecret t p i) = skSeed
+
+  -- The key's own call at a place.
+  abbrev pub ownAt : Place → Call
+  ownAt p = callOf (functionAt p) p (inputAt p)
+
+-- A call is the key's own call at a legal place.
+pub record Placed (r : Row) (w : Hashes) (skSeed : Bytes) (c : Call) : Type 0 where
+  pub place : Place
+  pub place-legal : LegalPlace r place
+  pub is-call : c ≡ ownAt w (r .a) (r .k) skSeed place
