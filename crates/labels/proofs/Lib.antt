@@ -1,3 +1,4 @@
 -- That the key's own call at an address is one call, in reading order.
 pub mod AddressLaws
 pub mod OwnLaws
+pub mod OwnOnce
