@@ -1,10 +1,10 @@
 -- Two places of a key with one address are one place: the six words are read back from their bytes, and the place from
 -- its words.
 -- Assumes nothing.
-use mathlib.Core.Path.{_≡_, refl, sym, ap, ap₂, _∙_}
+use mathlib.Core.Path.{_≡_, refl, sym, ap, _∙_}
 use mathlib.Core.List.{_++_}
 use mathlib.Core.Option.{some}
-use Prim.Native.Nat.{ℕ, zero, suc, _+_, _-_, _*_, _^_, _≤_, _<_}
+use Prim.Native.Nat.{ℕ, zero, suc, _-_, _*_, _^_, _≤_, _<_}
 use native.Mathlib.Nat.{lt-of-lt-of-le, le-trans, mul-le-mul-left, mul-suc, sub-le}
 use native.Mathlib.Omega.{arith}
 use lib.Dec.{T, leb, ltb, leb→le, ltb→lt}
@@ -16,7 +16,7 @@ use Rattle.rules.specs.Chains.{chains}
 use Rattle.rules.specs.Sets.{Row, Legal, rows, every, rowOf}
 use Rattle.rules.proofs.DigitLaws.{length-digits, digits-inj}
 use Rattle.rules.proofs.SetLaws.{first, second, rowOf-passes}
-use Rattle.labels.specs.Labels.{LegalTree, LegalLeaf, LegalForest, LegalPlace, InWords, inWords}
+use Rattle.labels.specs.Labels.{LegalTree, LegalPlace, InWords, inWords}
 
 -- ---- The words of a place
 
@@ -86,7 +86,7 @@ record Fit (x : Words) : Type 0 where
   b-fits : x .b < 2 ^ 32
   c-fits : x .c < 2 ^ 32
 
--- The number in the first n bytes, and what follows them.
+-- Of equal strings that begin with a number in n bytes, the numbers are equal, and so is what follows.
 split : (n x y : ℕ) {s t : Bytes} → x < 2 ^ (8 * n) → y < 2 ^ (8 * n) → toByte x n ++ s ≡ toByte y n ++ t
     → (x ≡ y) × (s ≡ t)
 split n x y hx hy e =
@@ -108,7 +108,7 @@ words-inj x y hx hy e =
 
 module _ (r : Row) (legal : Legal r) (room : InWords r) where
   layer-fits : {l : ℕ} → l < r .d → l < 2 ^ 32
-  layer-fits h = lt-of-lt-of-le h (room .layers)
+  layer-fits h = omega (arith, h, room .layers)
 
   forest-tree-fits : {t : ℕ} → t < 2 ^ (r .h - r .h') → t < 2 ^ 96
   forest-tree-fits h = lt-of-lt-of-le h (pow-mono (room .trees))

@@ -5,11 +5,11 @@ use mathlib.Core.Path.{_≡_, refl, sym, ap, _∙_, subst}
 use mathlib.Core.Logic.{_⊎_, inl, inr}
 use mathlib.Core.List.{List, [], _∷_, _++_, List·Memᴰ, List·Memᴰ·not-nil, List·Memᴰ·cases-cons, List·Memᴰ·append-cases}
 use Prim.Native.Nat.{ℕ, zero, suc, _+_, _-_, _*_, _^_, _≤_, _<_}
-use native.Mathlib.Nat.{zero-add, sub-zero, sub-self, pow-suc, le-refl, mul-one}
+use native.Mathlib.Nat.{zero-add, sub-zero, sub-self, pow-suc}
 use native.Mathlib.Numerals.{add-one}
 use native.Mathlib.Omega.{arith}
 use Rattle.rules.specs.Places.{Bytes, Place, chainStep, chainEnds, treeNode, forestNode, forestRoots, chainSecret, forestSecret, address}
-use Rattle.rules.specs.Calls.{Function, F, H, T, PRF, Call, callOf, Family, Hashes, under, Run}
+use Rattle.rules.specs.Calls.{F, H, PRF, Call, callOf, Family, Hashes, under}
 use Rattle.rules.specs.Chains.{chains, chain, ends, leaf, ownChain}
 use Rattle.rules.specs.Trees.{Tree, node}
 use Rattle.rules.specs.Layers.{layerTree, ownRoot}
@@ -18,10 +18,11 @@ use Rattle.rules.specs.Sets.{Row}
 use Rattle.rules.proofs.ChainLaws.{chain-add}
 use Rattle.rules.proofs.TreeLaws.{pair}
 use Rattle.findings.specs.Findings.{OwnCall, of-tree, of-forest}
-use Rattle.labels.specs.Labels.{LegalTree, LegalLeaf, LegalForest, LegalPlace, functionAt, inputAt, ownAt, Placed}
+use Rattle.labels.specs.Labels.{LegalTree, LegalLeaf, LegalForest, LegalPlace, inputAt, ownAt, Placed}
 
 -- ---- What holds of every call of a list
 
+-- Every call of the list has P: no call, one more call, two lists joined.
 abbrev All : (P : Call → Type 0) → List Call → Type 0
 All P l = (c : Call) → List·Memᴰ c l → P c
 
@@ -47,7 +48,8 @@ module _ {P : Call → Type 0} where
   module _ (w : Hashes) (tree : Tree) (top : ℕ) (many : ℕ → ℕ)
       (twice : (z : ℕ) → suc z ≤ top → many z ≡ 2 * many (suc z))
       (leaves : (i : ℕ) → i < many 0 → All P (tree .leaf i .calls))
-      (nodes : (z i : ℕ) → suc z ≤ top → i < many (suc z) → P (callOf H (tree .place (suc z) i) (pair w tree z i))) where
+      (nodes : (z i : ℕ) → suc z ≤ top → i < many (suc z)
+      → P (callOf H (tree .place (suc z) i) (pair w tree z i))) where
     node-made : (z i : ℕ) → z ≤ top → i < many z → All P (node w tree z i .calls)
     unfolding node
     node-made zero i hz hi = leaves i hi
@@ -75,6 +77,7 @@ module _ (r : Row) (w : Hashes) (same-n : w .n ≡ r .n) (sk : Bytes) where
   -- ---- A leaf of a layer's tree
 
   module _ (l t p : ℕ) (h : LegalLeaf r l t p) where
+    -- One step on from the own value is the next own value.
     own-next : (c s : ℕ)
         → w .hash F (address (chainStep l t p c s)) (ownChain w l t p sk c s) ≡ ownChain w l t p sk c (suc s)
     unfolding ownChain chain
@@ -97,6 +100,7 @@ module _ (r : Row) (w : Hashes) (same-n : w .n ≡ r .n) (sk : Bytes) where
         (chain-made c hc (w .hash F (address (chainStep l t p c i)) x) (suc i) s (omega arith)
         (ap (w .hash F (address (chainStep l t p c i))) e ∙ own-next c i))
 
+    -- The chains from chain c on, and the leaf over all of them.
     ends-made : (c count : ℕ) → c + count ≤ chains (r .n) → All Good (ends w l t p sk c count .calls)
     unfolding ends inputAt ownChain chain
     ends-made c zero b = none-made Good
@@ -128,6 +132,7 @@ module _ (r : Row) (w : Hashes) (same-n : w .n ≡ r .n) (sk : Bytes) where
   -- ---- A forest
 
   module _ (t p : ℕ) (h : LegalForest r t p) where
+    -- A leaf, and a tree of the forest.
     forest-leaf-made : (i : ℕ) → i < r .k * 2 ^ (r .a - 0) → All Good (forestLeaf w t p sk i .calls)
     unfolding forestLeaf inputAt
     forest-leaf-made i hi =
@@ -142,6 +147,7 @@ module _ (r : Row) (w : Hashes) (same-n : w .n ≡ r .n) (sk : Bytes) where
         (λ z i hz hi. at-place (forestNode t p (suc z) i) (h, hz, hi))
         (r .a) j (omega arith) (rw (sub-self (r .a)) (omega arith))
 
+    -- The trees from tree j on, and what is made over all roots.
     roots-made : (j count : ℕ) → j + count ≤ r .k → All Good (roots w t p (r .a) sk j count .calls)
     unfolding roots
     roots-made j zero b = none-made Good

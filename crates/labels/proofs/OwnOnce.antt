@@ -1,10 +1,10 @@
--- The key's own call at an address is one call: its place is read off the address, and function and input off the place.
+-- The key's own call at an address is one call: the address tells its place, and the place its function and input.
 -- Assumes nothing.
 use mathlib.Core.Path.{_≡_, sym, ap, _∙_, subst}
 use mathlib.Core.List.{List}
 use mathlib.Core.Option.{Option·some-injective}
 use Rattle.rules.specs.Places.{Bytes, Place, address}
-use Rattle.rules.specs.Calls.{Function, of, Call, callOf, addressOf, Family, Hashes, under}
+use Rattle.rules.specs.Calls.{Function, of, Call, callOf, addressOf, Family, under}
 use Rattle.rules.specs.Sets.{Row, Legal}
 use Rattle.findings.specs.Findings.{Collision, OwnCall}
 use Rattle.labels.specs.Labels.{LegalPlace, InWords, functionAt, inputAt, ownAt, Placed}
@@ -18,6 +18,11 @@ module _ (r : Row) (f : Family (r .n) (r .m)) (skSeed pkSeed : Bytes) where
   abbrev ours-at : Place → Call
   ours-at p = ownAt (under f pkSeed) (r .a) (r .k) skSeed p
 
+  -- Its address is that of its place.
+  addressed : (c : Call) (u : Placed r (under f pkSeed) skSeed c) → addressOf (c .place) ≡ address (u .place)
+  addressed c u = ap (λ (x : Call). addressOf (x .place)) (u .is-call)
+
+  -- What an own call at a place is, field by field.
   own-parts : (g : Function) (p : Place) (y : Bytes) → Own (callOf g p y)
       → LegalPlace r p × (g ≡ functionAt p) × (y ≡ inputAt (under f pkSeed) (r .a) (r .k) skSeed p)
   own-parts g p y o =
@@ -39,11 +44,9 @@ module _ (r : Row) (f : Family (r .n) (r .m)) (skSeed pkSeed : Bytes) where
     own-once c e oc oe same =
         let u = own-placed r f skSeed pkSeed c oc in
         let v = own-placed r f skSeed pkSeed e oe in
-        let at : address (u .place) ≡ address (v .place) =
-        sym (ap (λ (x : Call). addressOf (x .place)) (u .is-call)) ∙ same
-        ∙ ap (λ (x : Call). addressOf (x .place)) (v .is-call) in
         u .is-call
-        ∙ ap ours-at (address-injective r legal room (u .place) (v .place) (u .place-legal) (v .place-legal) at)
+        ∙ ap ours-at (address-injective r legal room (u .place) (v .place) (u .place-legal) (v .place-legal)
+        (sym (addressed c u) ∙ same ∙ addressed e v))
         ∙ sym (v .is-call)
 
     -- So whichever own call has a collision's address is the call that it names.

@@ -1,14 +1,14 @@
 -- At every legal place the key has an own call, so the own calls are just those at legal places: by recursion from a
 -- root down to the place.
 -- Assumes nothing.
-use mathlib.Core.Path.{_≡_, refl, sym, ap, _∙_, subst, subst₂}
+use mathlib.Core.Path.{_≡_, refl, sym, _∙_, subst, subst₂}
 use mathlib.Core.Logic.{_↔_}
-use mathlib.Core.List.{List, [], _∷_, _++_, List·Memᴰ·head, List·Memᴰ·tail, Memᴰ·append-left, Memᴰ·append-right}
+use mathlib.Core.List.{List, [], _++_, List·Memᴰ·head, List·Memᴰ·tail, Memᴰ·append-left, Memᴰ·append-right}
 use Prim.Native.Nat.{ℕ, zero, suc, _+_, _-_, _*_, _/_, _%_, _^_, _≤_, _<_}
 use native.Mathlib.Nat.{zero-add, add-zero, suc-add, add-suc, pow-suc, sub-zero, mod-lt, zero-lt-suc}
 use native.Mathlib.Omega.{arith}
 use Rattle.rules.specs.Places.{Bytes, Place, chainStep, chainEnds, treeNode, forestNode, forestRoots, chainSecret, forestSecret, address}
-use Rattle.rules.specs.Calls.{F, H, T, PRF, Call, callOf, Family, Hashes, under, Run}
+use Rattle.rules.specs.Calls.{F, H, PRF, Call, callOf, Family, Hashes, under}
 use Rattle.rules.specs.Chains.{chains, chain, ends, leaf, ownChain}
 use Rattle.rules.specs.Trees.{Tree, node}
 use Rattle.rules.specs.Layers.{layerTree, ownRoot}
@@ -16,7 +16,7 @@ use Rattle.rules.specs.Forest.{forestLeaf, forestTree, roots, ownForest}
 use Rattle.rules.specs.Sets.{Row}
 use Rattle.findings.specs.Findings.{OwnCall, of-tree, of-forest}
 use Rattle.findings.proofs.FindingLaws.{Owns}
-use Rattle.labels.specs.Labels.{LegalTree, LegalLeaf, LegalForest, LegalPlace, functionAt, inputAt, ownAt, Placed}
+use Rattle.labels.specs.Labels.{LegalTree, LegalForest, LegalPlace, inputAt, ownAt, Placed}
 use Rattle.labels.proofs.OwnLaws.{own-placed}
 
 -- ---- From a run down to its calls, where each of them has P
@@ -113,6 +113,7 @@ module _ (r : Row) (f : Family (r .n) (r .m)) (sk pk : Bytes) where
   Own c = OwnCall r f sk pk c
 
   module _ (l t : ℕ) (h : LegalTree r l t) where
+    -- The nodes of the tree, its leaves, their chains' ends and their chains.
     node-own : (z i : ℕ) → z ≤ r .h' → i < 2 ^ (r .h' - z) → Owns Own (node w (layerTree w sk l t) z i)
     unfolding ownRoot
     node-own z i hz hi =
@@ -134,6 +135,7 @@ module _ (r : Row) (f : Family (r .n) (r .m)) (sk pk : Bytes) where
         (chain-has w Own l t p sk 0 (chains (r .n)) c hc (ends-own p hp))
 
   module _ (t p : ℕ) (h : LegalForest r t p) where
+    -- The roots of the forest, its nodes and its leaves.
     roots-own : Owns Own (roots w t p (r .a) sk 0 (r .k))
     unfolding ownForest
     roots-own c m = of-forest t p (h .tree-lt) (h .pair-lt) (Memᴰ·append-left _ m)

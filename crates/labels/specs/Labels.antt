@@ -30,8 +30,8 @@ pub record LegalForest (r : Row) (tree pair : ℕ) : Type 0 where
   pub tree-lt : tree < 2 ^ (r .h - r .h')
   pub pair-lt : pair < 2 ^ r .h'
 
--- The words of the places of a row's keys: figures 3 to 9. Height 0 of a layer's tree is a leaf, which has its place by
--- its chains' ends. The forest's nodes at a height are those of k trees, counted through.
+-- The places of a row's keys, with the words of figures 3 to 9. A chain has 15 steps. Height 0 of a layer's tree is a
+-- leaf, whose place is that of its chains' ends. The forest's nodes at a height are those of k trees, counted through.
 abbrev pub LegalPlace : Row → Place → Type 0
 LegalPlace r (chainStep l t p c s) = LegalLeaf r l t p × (c < chains (r .n)) × (s < 15)
 LegalPlace r (chainEnds l t p) = LegalLeaf r l t p
@@ -41,7 +41,7 @@ LegalPlace r (forestRoots t p) = LegalForest r t p
 LegalPlace r (chainSecret l t p c) = LegalLeaf r l t p × (c < chains (r .n))
 LegalPlace r (forestSecret t p i) = LegalForest r t p × (i < r .k * 2 ^ r .a)
 
--- The words of an address hold all of them: layer and index have 4 bytes, the tree has 12 (figure 2).
+-- The words of an address hold all of them: the tree has 12 bytes, each other word 4 (figure 2).
 pub record InWords (r : Row) : Type 0 where
   pub layers : r .d ≤ 2 ^ 32
   pub trees : r .h - r .h' ≤ 96
@@ -71,12 +71,13 @@ functionAt (forestRoots t p) = T
 functionAt (chainSecret l t p c) = PRF
 functionAt (forestSecret t p i) = PRF
 
--- The key's own input: a chain's value, the ends or the roots joined, two children joined, a secret value, the secret
--- seed. At height 0 of a layer's tree nothing is called.
 module _ (w : Hashes) (a k : ℕ) (skSeed : Bytes) where
+  -- The two nodes at height z that stand below index i, joined.
   abbrev childrenOf : Tree → (z i : ℕ) → Bytes
   childrenOf tree z i = node w tree z (2 * i) .result ++ node w tree z (2 * i + 1) .result
 
+  -- The key's own input: a chain's value, the ends or the roots joined, two children joined, a secret value, the secret
+  -- seed. At height 0 of a layer's tree nothing is called.
   unfoldable pub inputAt : Place → Bytes
   inputAt (chainStep l t p c s) = ownChain w l t p skSeed c s
   inputAt (chainEnds l t p) = ends w l t p skSeed 0 (chains (w .n)) .result
