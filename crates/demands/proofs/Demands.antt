@@ -11,13 +11,13 @@ use native.Mathlib.Nat.{not-le-of-lt}
 use native.Mathlib.Omega.{arith}
 use lib.ListN.{length, take, drop}
 use Rattle.rules.specs.Places.{Bytes}
-use Rattle.rules.specs.Calls.{F, of}
+use Rattle.rules.specs.Calls.{F, of, Call, addressOf}
 use Rattle.rules.specs.Chains.{chains, chainDigits}
 use Rattle.rules.specs.Sets.{Row, rows, rowOf}
 use Rattle.rules.specs.Keys.{piece, publicKey, secretKey}
 use Rattle.rules.specs.Seal.{plain, frame, sealOf, part}
 use Rattle.rules.specs.Check.{checkedRoot, Accepted}
-use Rattle.findings.specs.Findings.{OneOfThree}
+use Rattle.findings.specs.Findings.{OneOfThree, OwnCall}
 use Rattle.counts.specs.Counts.{count, cost, fCalls, callsByCost}
 use Rattle.rules.proofs.KeyLaws.{publicKey-long}
 use Rattle.rules.proofs.Accepts.{accepts}
@@ -25,6 +25,8 @@ use Rattle.findings.proofs.OneOfThree.{one-of-three}
 use Rattle.counts.proofs.CountLaws.{F-calls}
 use Rattle.counts.proofs.CostLaws.{by-cost, F-least, F-greatest}
 use Rattle.rules.proofs.SetLaws.{rowOf-legal}
+use Rattle.labels.proofs.AddressLaws.{rowOf-in-words}
+use Rattle.labels.proofs.OwnOnce.{own-once}
 use Rattle.calls.specs.Hashes.{familyFor}
 use Rattle.answers.specs.Answers.{number}
 use Rattle.answers.specs.Tests.{Under}
@@ -284,6 +286,13 @@ module _ (set : ℕ) (skSeed skPrf pkSeed public-was secret-was : Bytes) (a : An
       (subst (λ (x : Bytes). Accepted r (familyFor r) x (frame (plain [] message)) seal)
       (at-row (rowOf set) _ r e keys .0) (q .1 .1)))
       (accepted-exactly set public message seal v checked .0 accepted)
+
+-- "The key's own call is the F, H or T call that the rules make from the seeds at that address": there is one.
+pub own-call-once : (set : ℕ) (r : Row) → rowOf set ≡ some r → (skSeed pkSeed : Bytes) (c e : Call)
+    → OwnCall r (familyFor r) skSeed pkSeed c → OwnCall r (familyFor r) skSeed pkSeed e
+    → addressOf (c .place) ≡ addressOf (e .place) → c ≡ e
+own-call-once set r e skSeed pkSeed =
+    own-once r (familyFor r) skSeed pkSeed (rowOf-legal set r e .1) (rowOf-in-words set r e)
 
 -- ==== "any pair of outcomes allowed by one promise is a single outcome"
 

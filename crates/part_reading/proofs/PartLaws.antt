@@ -16,7 +16,7 @@ use Rattle.rules.proofs.SealLaws.{part-fits}
 use Rattle.rules.specs.Seal.{part, partStart, partLength}
 use Rattle.answers.specs.Answers.{settled}
 use Rattle.answers.specs.Lines.{first}
-use Rattle.part_reading.specs.Parts.{partLines, partAnswer, partGiven, startGiven, lengthGiven}
+use Rattle.part_reading.specs.Parts.{byteAt, partLines, partAnswer, partGiven, startGiven, lengthGiven}
 use Rattle.answers.proofs.LineLaws.{zero-given}
 use Rattle.answers.proofs.AnswerLaws.{settled-made, settled-kept}
 
@@ -25,8 +25,10 @@ module _ {row other : Option Row} (e : row ≡ other) where
   pub part-answer-by : (seal : Bytes) (k : ℕ) {x : ℕ} → x ≡ partAnswer other seal k → x ≡ partAnswer row seal k
   part-answer-by seal k h = rw e h
 
-  pub part-by : (seal : Bytes) (k : ℕ) {x : Bytes} → x ≡ partGiven other seal k → x ≡ partGiven row seal k
-  part-by seal k h = rw e h
+  pub part-by : (seal : Bytes) (k : ℕ) (at : ℕ × ℕ) {x : Bytes} {y : ℕ × ℕ}
+      → (x ≡ partGiven other seal k) × (y ≡ byteAt at (startGiven other seal k))
+      → (x ≡ partGiven row seal k) × (y ≡ byteAt at (startGiven row seal k))
+  part-by seal k at h = rw e h
 
   pub extent-by : (seal : Bytes) (k : ℕ) {start long : ℕ}
       → (start ≡ startGiven other seal k) × (long ≡ lengthGiven other seal k)

@@ -19,6 +19,10 @@ partLines row seal number =
     ∷ line 6 (under row (λ r. within number (r .d + 1)))
     ∷ []
 
+-- Where the byte of a number lies in a lent string, by where the string lies: a block of memory and an offset there.
+abbrev pub byteAt : (string : ℕ × ℕ) (number : ℕ) → ℕ × ℕ
+byteAt string number = (string .0, number + string .1)
+
 -- A seal, and the part's number.
 module _ (row : Option Row) (seal : Bytes) (number : ℕ) where
   abbrev pub partAnswer : ℕ

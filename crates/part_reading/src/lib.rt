@@ -2,6 +2,7 @@
 ghost use mathlib.Core.Path.{_≡_};
 ghost use mathlib.Core.Option.{some};
 ghost use Prim.Native.Nat.{_+_, _≤_};
+ghost use denote.Ref.{ptr};
 ghost use lib.ListN.{length};
 ghost use Rattle.rules.specs.Sets.{rowOf};
 ghost use Rattle.rules.specs.Layers.{layerBytes};
@@ -10,7 +11,7 @@ ghost use Rattle.rules.specs.Seal.{partStart, partLength};
 ghost use Rattle.rows.specs.Rows.{ruledRow};
 ghost use Rattle.rows.specs.Ready.{Ready};
 ghost use Rattle.answers.specs.Answers.{number as numberOf};
-ghost use Rattle.part_reading.specs.Parts.{partAnswer, partGiven, startGiven, lengthGiven};
+ghost use Rattle.part_reading.specs.Parts.{byteAt, partAnswer, partGiven, startGiven, lengthGiven};
 use answers::Answer;
 use answers::number_of;
 use answers::unless;
@@ -79,6 +80,8 @@ fn part_answer_under(row: Row, seal: &[u8], number: u32) -> Answer
 fn part_under(row: Row, seal: &[u8], number: u32) -> &[u8]
     requires { ⌜ Ready (ruledRow row) ⌝ }
     ensures { λ r. ⌜ now r ≡ partGiven (some (ruledRow row)) (now (seal .entry)) number ⌝ }
+    ensures { λ r. ⌜ ptr r ≡ byteAt (ptr (seal .entry))
+        (startGiven (some (ruledRow row)) (now (seal .entry)) number) ⌝ }
 {
     let answer = part_answer_under(row, seal, number);
     if number_of(answer) != 0 {
@@ -100,9 +103,10 @@ pub fn part_answer(set: u32, seal: &[u8], number: u32) -> Answer
     }
 }
 
-// The part of a seal; empty with every refusal.
+// The part of a seal, as it lies there: the lent memory itself. Empty with every refusal.
 pub fn part(set: u32, seal: &[u8], number: u32) -> &[u8]
     ensures { λ r. ⌜ now r ≡ partGiven (rowOf set) (now (seal .entry)) number ⌝ }
+    ensures { λ r. ⌜ ptr r ≡ byteAt (ptr (seal .entry)) (startGiven (rowOf set) (now (seal .entry)) number) ⌝ }
 {
     let found = find_row(set);
     match found {

@@ -2,10 +2,11 @@
 -- Assumes nothing.
 use mathlib.Core.Path.{_≡_, refl, sym, ap, _∙_}
 use mathlib.Core.List.{[], _∷_}
-use Prim.Native.Nat.{ℕ}
+use Prim.Native.Nat.{ℕ, zero, suc}
 use lib.ListN.{length}
 use Rattle.lists.proofs.Parts.{nil-of-length}
 use Rattle.rules.specs.Places.{Bytes}
+use Rattle.randomizers.specs.Mixed.{chosen}
 use Rattle.rules.specs.Calls.{Family}
 use Rattle.rules.specs.Sets.{Row}
 use Rattle.rules.specs.Seal.{mixedIn, randomizerOf}
@@ -19,6 +20,14 @@ pub mixed-some : (random pk : Bytes) → (length random ≡ 0 → ⊥) → rando
 unfolding mixedIn
 mixed-some [] pk h = absurd (h refl)
 mixed-some (x ∷ xs) pk h = refl
+
+-- They are the one or the other of two things lent.
+pub chosen-none : {A : Type 0} (bytes : ℕ) (random seed : A) → bytes ≡ 0 → seed ≡ chosen bytes random seed
+chosen-none bytes random seed e = ap (λ (n : ℕ). chosen n random seed) (sym e)
+
+pub chosen-some : {A : Type 0} (bytes : ℕ) (random seed : A) → (bytes ≡ 0 → ⊥) → random ≡ chosen bytes random seed
+chosen-some zero random seed h = absurd (h refl)
+chosen-some (suc _) random seed h = refl
 
 -- The randomizer of a framed message M.
 pub randomizer-made : (r : Row) (f : Family (r .n) (r .m)) (prf mixed M : Bytes) {R x : Bytes} → x ≡ mixed

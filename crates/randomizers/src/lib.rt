@@ -1,7 +1,9 @@
 // The randomizer of a seal, and where the message points with it (FIPS 205, algorithm 19, lines 2 to 10).
 ghost use mathlib.Core.Path.{_≡_};
 ghost use mathlib.Core.List.{_++_};
+ghost use denote.Ref.{ptr};
 ghost use lib.ListN.{length};
+ghost use Rattle.randomizers.specs.Mixed.{chosen};
 ghost use Rattle.rules.specs.Digest.{pointed};
 ghost use Rattle.rules.specs.Seal.{mixedIn, randomizerOf, digestOf};
 ghost use Rattle.rows.specs.Rows.{ruledRow};
@@ -14,10 +16,11 @@ use points::Pointed;
 use points::aim;
 use rows::Row;
 
-// The mixed-in bytes (line 2): the randomizer input, or where it is empty the secret key's public seed. Nothing is
-// copied.
+// The mixed-in bytes (line 2): the randomizer input, or where it is empty the secret key's public seed. They are the
+// lent memory itself.
 fn mixed_in<'a>(random: &'a [u8], seed: &'a [u8]) -> &'a [u8]
     ensures { λ r. ⌜ now r ≡ mixedIn (now (random .entry)) (now (seed .entry)) ⌝ }
+    ensures { λ r. ⌜ ptr r ≡ chosen (length (now (random .entry))) (ptr (random .entry)) (ptr (seed .entry)) ⌝ }
 {
     if random.len() == 0 { seed } else { random }
 }

@@ -1,12 +1,14 @@
 -- `part_under` hands out the part as it lies in the seal, and with a refusal the empty part.
 -- Assumes nothing.
-use mathlib.Core.Path.{_≡_, sym, ap₂, _∙_}
+use mathlib.Core.Path.{_≡_, sym, ap, ap₂, _∙_}
+use mathlib.Core.Option.{some}
 use Prim.Native.Nat.{_+_, _-_, _≤_}
 use native.Mathlib.Omega.{arith}
 use lib.ListN.{length, take, drop}
 use Rattle.rows.specs.Rows.{ruledRow}
+use Rattle.part_reading.specs.Parts.{byteAt, partAnswer}
 use Rattle.rules.proofs.SealLaws.{part-fits}
-use Rattle.part_reading.proofs.PartLaws.{part-refused, part-read, part-there}
+use Rattle.part_reading.proofs.PartLaws.{part-refused, part-read, extent-refused, extent-read, part-there}
 use borrow.Author.Needs.{needs}
 use Rattle.part_reading.proofs.part_under.Statement.{statement}
 use Rattle.part_reading.proofs.part_under.Tie as tie
@@ -15,8 +17,11 @@ returns : tie.Need-returns
 returns c =
     let a = c .before .before .before .before .before .args in
     let e = c .before .before .before .part-answer-under .ensures in
-    part-refused (a .seal .now) (a .number) (ruledRow (a .row))
-    (λ z. c .before .if1 .taken (c .before .before .number-of .ensures ∙ e ∙ z))
+    let refused : partAnswer (some (ruledRow (a .row))) (a .seal .now) (a .number) ≡ 0 → ⊥ =
+    λ z. c .before .if1 .taken (c .before .before .number-of .ensures ∙ e ∙ z) in (
+      part-refused (a .seal .now) (a .number) (ruledRow (a .row)) refused,
+      ap (byteAt (a .seal .ptr)) (extent-refused (a .seal .now) (a .number) (ruledRow (a .row)) refused .0),
+    )
 
 -- Where the part is read, every test has passed.
 there : (c : tie.Else1)
@@ -50,10 +55,13 @@ returns-2 : tie.Need-returns-2
 returns-2 c =
     let e = c .before .before .before in
     let a = e .before .before .before .before .args in
-    ap₂ (λ x y. take (x + y - x) (drop x (a .seal .now))) (c .before .before .part-start .ensures)
-    (c .before .part-length .ensures)
-    ∙ part-read (a .seal .now) (a .number) (ruledRow (a .row))
-    (sym (e .before .before .part-answer-under .ensures) ∙ sym (e .before .number-of .ensures) ∙ e .if1 .left)
+    let start = c .before .before .part-start .ensures in
+    let long = c .before .part-length .ensures in
+    let z = sym (e .before .before .part-answer-under .ensures) ∙ sym (e .before .number-of .ensures) ∙ e .if1 .left in (
+      ap₂ (λ x y. take (x + y - x) (drop x (a .seal .now))) start long
+          ∙ part-read (a .seal .now) (a .number) (ruledRow (a .row)) z,
+      ap (byteAt (a .seal .ptr)) (extent-read (a .seal .now) (a .number) (ruledRow (a .row)) z start long .0),
+    )
 
 pub part-under-spec : {M : Type 1} → statement M
 part-under-spec =

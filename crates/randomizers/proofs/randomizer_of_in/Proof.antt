@@ -22,7 +22,7 @@ returns c =
     let a = k .before .before .before .before .before .before .before .before .args in
     let r = ruledRow (a .row) in
     randomizer-made r (familyFor r) (a .prf .now) (mixedIn (a .random .now) (a .seed .now))
-    (a .head .now ++ (a .context .now ++ a .message .now)) (mixed .mixed-in .ensures)
+    (a .head .now ++ (a .context .now ++ a .message .now)) (mixed .mixed-in .ensures .0)
     (rw (k .kit-of .ensures) at (made .randomizer-in .ensures))
 
 pub randomizer-of-in-spec : {M : Type 1} → statement M
