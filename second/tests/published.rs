@@ -1,4 +1,5 @@
-//! NIST's published cases, every line of each vectors file. One test for each file, so that two threads share the work.
+//! Published cases, NIST's and OpenSSL's, every line of each vectors file. One test for each file, so that two threads
+//! share the work.
 
 mod common;
 
@@ -102,6 +103,18 @@ per_set! {
     sealing_10_sha2_192f checking_10_sha2_192f 10: 14, 1 1;
     sealing_11_sha2_256s checking_11_sha2_256s 11: 4, 1 2;
     sealing_12_sha2_256f checking_12_sha2_256f 12: 14, 1 1;
+}
+
+/// OpenSSL's keys from seeds, and its deterministic seals with an empty context.
+#[test]
+fn openssl() {
+    for line in &read("openssl.txt", 2, 6) {
+        let (set, seeds) = (set_of(line, 1, 2), line.bytes(1));
+        let (public, secret) = keygen(set, &seeds[..16], &seeds[16..32], &seeds[32..]).expect(&line.place);
+        assert_eq!([hex(&public), hex(&secret)], [line.text(2), line.text(3)], "{}: keys", line.place);
+        let seal = sign(set, &line.bytes(4), &[], &secret, None).expect(&line.place);
+        assert_eq!(hex(&sha256(&seal)), line.text(5), "{}: SHA-256 of the seal", line.place);
+    }
 }
 
 /// A seal checked as `internal` over the frame is the seal checked as `pure`, for every stored case of a context.
