@@ -2,7 +2,8 @@
  * Seals of SLH-DSA (FIPS 205), from the proved library target/staticlib/libface.a (made by `rt staticlib face`).
  *
  * Every function tests its own arguments and ends with an answer; with an answer from 1 to 4 or 6 it has changed no
- * byte of a buffer. Where several answers apply, the smallest number is given.
+ * byte of a buffer. What is told beside an answer, through f_calls, start and length, is a part of it and written with
+ * every answer. Where several answers apply, the smallest number is given.
  *
  * A buffer is a pointer and the number of its elements. No pointer may be NULL, even with the length 0. A buffer that
  * is written must overlap no other one. The functions keep no pointer and have no state, so threads may share them.

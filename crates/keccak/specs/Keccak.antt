@@ -58,7 +58,7 @@ unfoldable pub ι : ℕ → List ℕ → List ℕ
 unfoldable pub round : ℕ → List ℕ → List ℕ
 round c s = ι c (χ (π (ρ (θ s))))
 
--- Algorithm 7, KECCAK-p: the first n rounds, each with its constant.
+-- The first n of the 24 rounds, each with its constant. Algorithm 7, KECCAK-p, runs the last n; of 24 both are all.
 unfoldable pub rounds : ℕ → List ℕ → List ℕ
 rounds zero s = s
 rounds (suc n) s = round (constant n) (rounds n s)
