@@ -56,7 +56,7 @@ fn seals_of_another_length() {
             count += 1;
         }
     }
-    assert_eq!(count, 3);
+    assert_eq!(count, 9);
 }
 
 /// Keys from OpenSSL's seeds are OpenSSL's, and so is the deterministic seal, which is accepted.
