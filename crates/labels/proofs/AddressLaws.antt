@@ -15,7 +15,7 @@ use Rattle.rules.specs.Places.{Bytes, Place, chainStep, chainEnds, treeNode, fo
 use Rattle.rules.specs.Chains.{chains}
 use Rattle.rules.specs.Sets.{Row, Legal, rows, every, rowOf}
 use Rattle.rules.proofs.DigitLaws.{length-digits, digits-inj}
-use Rattle.rules.proofs.SetLaws.{first, second, rowOf-passes}
+use Rattle.rules.proofs.SetLaws.{checksum-fits, first, second, rowOf-passes}
 use Rattle.labels.specs.Labels.{LegalTree, LegalPlace, InWords, inWords}
 
 -- ---- The words of a place
@@ -133,7 +133,7 @@ module _ (r : Row) (legal : Legal r) (room : InWords r) where
   pair-fits h = lt-of-lt-of-le h (pow-mono (room .pairs))
 
   chain-fits : {c : ℕ} → c < chains (r .n) → c < 2 ^ 32
-  chain-fits h = omega (arith, h, legal .checksum-fits)
+  chain-fits h = omega (arith, h, checksum-fits r legal)
 
   fit : (p : Place) → LegalPlace r p → Fit (wordsOf p)
   fit (chainStep l t p c s) h = record {
