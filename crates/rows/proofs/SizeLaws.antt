@@ -65,6 +65,12 @@ wood-fits k n h l = le-trans (mul-le-mul-left k l) (mul-le-mul-right {m = k} {n 
 pub small-product : (a n : ℕ) → a < 2 ^ 32 → n ≤ 32 → a * n ≤ 2 ^ 32 * 32
 small-product a n h l = le-trans (mul-le-mul-left a l) (mul-le-mul-right {m = a} {n = 2 ^ 32} 32 (omega arith))
 
+-- The parts of at most 35 trees fit a word.
+pub trees-fit : (k n a : ℕ) → k ≤ 35 → a < 2 ^ 32 → n ≤ 32 → k * (n + a * n) ≤ 35 * (32 + 2 ^ 32 * 32)
+trees-fit k n a h g l =
+    let tree : n + a * n ≤ 32 + 2 ^ 32 * 32 = omega (arith, small-product a n g l) in
+    mul-le-mul h tree
+
 -- ---- The pieces of a key, as code lends them
 
 -- Piece i of a string.
