@@ -10,9 +10,10 @@ use Rattle.digit_reading.proofs.digits_answer.Tie as tie
 returns : tie.Need-returns
 returns c =
     let m = c .before .before in
+    let room = ap (eqb (m .before .args .digits)) (m .chain-count .ensures) in
     passed-line _ _ _ refl
     (one-line _ _ _ (c .unless2 .ensures) refl
-    (one-line _ _ _ (c .before .unless .ensures) (ap (eqb (m .before .args .digits)) (m .chain-count .ensures)) no-line))
+    (one-line _ _ _ (c .before .unless .ensures) room no-line))
 
 pub digits-answer-spec : {M : Type 1} → statement M
 digits-answer-spec =

@@ -2,7 +2,7 @@
 -- the calls.
 -- Assumes nothing.
 use mathlib.Core.Path.{_≡_, refl, sym, ap, ap₂, _∙_}
-use Prim.Native.Nat.{ℕ, suc, _+_, _-_, _*_, _^_, _≤_, _<_}
+use Prim.Native.Nat.{ℕ, suc, _+_, _-_, _*_, _≤_, _<_}
 use native.Mathlib.Nat.{sub-zero, mod-lt}
 use native.Mathlib.Numerals.{unary-clauses}
 use native.Mathlib.Omega.{arith}

@@ -1,7 +1,6 @@
 -- `leaf_from` lends `leaf_from_over` room for 67 digits and 67 values of 32 bytes.
 -- Assumes nothing.
-use mathlib.Core.Path.{_≡_, _∙_}
-use Prim.Native.Nat.{_+_, _*_}
+use mathlib.Core.Path.{_∙_}
 use native.Mathlib.Omega.{arith}
 use borrow.Author.Needs.{needs}
 use Rattle.lists.proofs.Parts.{zeros-part}

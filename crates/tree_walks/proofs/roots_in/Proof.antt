@@ -187,8 +187,8 @@ returns c =
 pub roots-in-spec : {M : Type 1} → statement M
 roots-in-spec =
     tie.close
-    (tie.spec Inv-loop μ-loop (λ c κs. search needs) loop-holds (λ c. omega (arith, room c .part-left)) (λ c. search needs)
-    (λ c. search needs) add-leaf (λ c. search needs) (λ c. search needs)
+    (tie.spec Inv-loop μ-loop (λ c κs. search needs) loop-holds (λ c. omega (arith, room c .part-left))
+    (λ c. search needs) (λ c. search needs) add-leaf (λ c. search needs) (λ c. search needs)
     (λ c. omega (arith, room (c .before) .part-left)) tree-root-requires (λ c. search needs)
     (λ c. search needs) part-put-end put-requires add-calls add-base (λ c. search needs) (λ c. search needs) loop-again
     (λ c. c .before .loop .inv .4) returns)

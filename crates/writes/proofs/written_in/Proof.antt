@@ -79,8 +79,8 @@ returns c =
     let a = start b .args in
     let r = ruledRow (a .row) in
     written-made r (familyFor r) (a .sk .now) (a .seed .now) (at (a .pointed) (a .indices .now))
-    (b .forest-bytes .result) (a .out .now) (forest f .part-long) (f .forest-up-in .ensures .0) (f .forest-up-in .ensures .1)
-    (up .layers-in .ensures)
+    (b .forest-bytes .result) (a .out .now) (forest f .part-long) (f .forest-up-in .ensures .0)
+    (f .forest-up-in .ensures .1) (up .layers-in .ensures)
 
 pub written-in-spec : {M : Type 1} → statement M
 written-in-spec =
