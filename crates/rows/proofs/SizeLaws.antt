@@ -20,7 +20,7 @@ use Rattle.rows.specs.Shapes.{forestSize, layerSize}
 
 module _ (r : Row) (ready : Ready r) where
   -- A tree's part, and the forest's, are small.
-  pub tree-room : r .n + r .a * r .n ≤ 544
+  tree-room : r .n + r .a * r .n ≤ 544
   tree-room = omega (arith, ready .fit .values, mul-le-mul (ready .fit .digits) (ready .fit .values))
 
   pub forest-room : forestSize r ≤ 19040
