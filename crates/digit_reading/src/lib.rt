@@ -13,6 +13,7 @@ use answers::unless;
 use rows::Found;
 use rows::Row;
 use rows::find_row;
+use rows::sizes::chain_count;
 
 // The lines under a known set, from the last to the first.
 fn digits_answer(row: Row, value: usize, digits: usize) -> Answer
@@ -20,7 +21,8 @@ fn digits_answer(row: Row, value: usize, digits: usize) -> Answer
     ensures { λ r. ⌜ number r ≡ first (digitsLines (some (ruledRow row)) value digits) ⌝ }
 {
     let n = row.n;
-    let room = digits == 2 * n + 3;
+    let many = chain_count(n);
+    let room = digits == many;
     let four = unless(room, Answer::SealLength, Answer::Done);
     unless(value == n, Answer::InputLength, four)
 }

@@ -14,6 +14,7 @@ use addresses::address_at;
 use calls::Kit;
 use calls::secret_in;
 use climbs::groves::Grove;
+use rows::sizes::tree_bytes;
 use trees::paths::path_in;
 
 // A tree's part: the secret value of leaf i of all trees, and its path.
@@ -57,7 +58,7 @@ pub fn forest_seal_in(
 {
     let n = kit.n;
     let leaves = 1u32 << a;
-    let step = n + (a as usize) * n;
+    let step = tree_bytes(n, a);
     let mut j: usize = 0;
     let mut base: u32 = 0;
     let mut at: usize = 0;

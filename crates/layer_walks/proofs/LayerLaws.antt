@@ -18,15 +18,15 @@ use Rattle.counts.proofs.CountLaws.{leaf-count, layer-count}
 module _ (w : Hashes) where
   -- A layer: the leaf that its chain values lead to, and the climb.
   module _ (h' l t i : ℕ) (sig m : Bytes) where
-    pub layer-made : {leaf root : Bytes} → leaf ≡ leafFrom w l t i (take (chains (w .n) * w .n - 0) sig) m .result
-        → root ≡ climb w (treeNode l t) h' 0 i leaf
-        (take (length sig - chains (w .n) * w .n) (drop (chains (w .n) * w .n) sig)) .result
+    pub layer-made : (size : ℕ) {leaf root : Bytes} → size ≡ chains (w .n) * w .n
+        → leaf ≡ leafFrom w l t i (take (size - 0) sig) m .result
+        → root ≡ climb w (treeNode l t) h' 0 i leaf (take (length sig - size) (drop size sig)) .result
         → root ≡ layerRoot w h' l t i sig m .result
     unfolding layerRoot chainBytes
-    layer-made f g =
+    layer-made size e f g =
         g ∙ ap₂ (λ v auth. climb w (treeNode l t) h' 0 i v auth .result)
-        (f ∙ ap (λ x. leafFrom w l t i x m .result) (front (chains (w .n) * w .n) sig))
-        (rest-read (chains (w .n) * w .n) sig)
+        (f ∙ ap (λ x. leafFrom w l t i x m .result) (front size sig ∙ ap (λ k. take k sig) e))
+        (rest-read size sig ∙ ap (λ k. drop k sig) e)
 
     pub layer-calls : (chained : Bytes) {calls : ℕ} → calls ≡ count (of F) (leafFrom w l t i chained m .calls)
         → calls ≡ count (of F) (layerRoot w h' l t i sig m .calls)

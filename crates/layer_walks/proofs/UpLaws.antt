@@ -54,35 +54,36 @@ module _ (w : Hashes) (h' : ℕ) where
       → 0 + count (of F) (upRun (d - 0) 0 t i M sig .calls) ≡ count (of F) (upRun d 0 t i M sig .calls)
   up-start d t i M sig = zero-add _ ∙ ap (λ k. count (of F) (upRun k 0 t i M sig .calls)) (sub-zero d)
 
-  -- A turn: one layer more, and its calls.
-  pub up-turn : (d j t i at size : ℕ) (M sig root : Bytes) {whole : Bytes} → j < d → size ≡ 2 ^ h'
-      → root ≡ layerRoot w h' j t i (take step (drop at sig)) M .result
+  -- A turn: one layer more, and its calls, where a layer's part has `part` bytes.
+  pub up-turn : (d j t i at size part : ℕ) (M sig root : Bytes) {whole : Bytes} → j < d → size ≡ 2 ^ h' → part ≡ step
+      → root ≡ layerRoot w h' j t i (take part (drop at sig)) M .result
       → upRun (d - j) j t i M (drop at sig) .result ≡ whole
-      → upRun (d - (j + 1)) (j + 1) (t / size) (t % size) root (drop (at + step) sig) .result ≡ whole
+      → upRun (d - (j + 1)) (j + 1) (t / size) (t % size) root (drop (at + part) sig) .result ≡ whole
   unfolding upRun
-  up-turn d j t i at size M sig root h s e q =
+  up-turn d j t i at size part M sig root h s p e q =
       let left : d - j ≡ suc (d - (j + 1)) = omega arith in
       let next : j + 1 ≡ suc j = omega arith in
-      ap₂ (λ x y. upRun (d - (j + 1)) (j + 1) (t / x) (t % x) y (drop (at + step) sig) .result) s e
+      rw p (ap₂ (λ x y. upRun (d - (j + 1)) (j + 1) (t / x) (t % x) y (drop (at + step) sig) .result) s (rw p at e)
       ∙ ap₂ (λ x y. upRun (d - (j + 1)) x (t / 2 ^ h') (t % 2 ^ h')
       (layerRoot w h' j t i (take step (drop at sig)) M .result) y .result) next (sym (drop-drop step at sig))
-      ∙ rw left at q
+      ∙ rw left at q)
 
-  pub up-turn-calls : (d j t i at size : ℕ) (M sig root : Bytes) → j < d → size ≡ 2 ^ h'
-      → root ≡ layerRoot w h' j t i (take step (drop at sig)) M .result
+  pub up-turn-calls : (d j t i at size part : ℕ) (M sig root : Bytes) → j < d → size ≡ 2 ^ h' → part ≡ step
+      → root ≡ layerRoot w h' j t i (take part (drop at sig)) M .result
       → count (of F) (upRun (d - j) j t i M (drop at sig) .calls)
-      ≡ count (of F) (layerRoot w h' j t i (take step (drop at sig)) M .calls)
-      + count (of F) (upRun (d - (j + 1)) (j + 1) (t / size) (t % size) root (drop (at + step) sig) .calls)
+      ≡ count (of F) (layerRoot w h' j t i (take part (drop at sig)) M .calls)
+      + count (of F) (upRun (d - (j + 1)) (j + 1) (t / size) (t % size) root (drop (at + part) sig) .calls)
   unfolding upRun
-  up-turn-calls d j t i at size M sig root h s e =
+  up-turn-calls d j t i at size part M sig root h s p e =
       let left : d - j ≡ suc (d - (j + 1)) = omega arith in
       let next : j + 1 ≡ suc j = omega arith in
-      ap (λ k. count (of F) (upRun k j t i M (drop at sig) .calls)) left
+      rw p (ap (λ k. count (of F) (upRun k j t i M (drop at sig) .calls)) left
       ∙ count-append (of F) (layerRoot w h' j t i (take step (drop at sig)) M .calls) _
       ∙ ap (λ x. count (of F) (layerRoot w h' j t i (take step (drop at sig)) M .calls) + x)
-      (sym (ap₂ (λ x y. count (of F) (upRun (d - (j + 1)) (j + 1) (t / x) (t % x) y (drop (at + step) sig) .calls)) s e
+      (sym (ap₂ (λ x y. count (of F) (upRun (d - (j + 1)) (j + 1) (t / x) (t % x) y (drop (at + step) sig) .calls)) s
+      (rw p at e)
       ∙ ap₂ (λ x y. count (of F) (upRun (d - (j + 1)) x (t / 2 ^ h') (t % 2 ^ h')
-      (layerRoot w h' j t i (take step (drop at sig)) M .result) y .calls)) next (sym (drop-drop step at sig))))
+      (layerRoot w h' j t i (take step (drop at sig)) M .result) y .calls)) next (sym (drop-drop step at sig)))))
 
   pub up-end : (d j t i : ℕ) (M sig : Bytes) → d ≤ j
       → (upRun (d - j) j t i M sig .result ≡ M) × (count (of F) (upRun (d - j) j t i M sig .calls) ≡ 0)

@@ -13,6 +13,8 @@ use climbs::Walked;
 use climbs::climb;
 use climbs::groves::Grove;
 use leaf_walks::leaf_from;
+use rows::sizes::chain_bytes;
+use rows::sizes::layer_bytes;
 
 // The root of a layer's tree, from its part of a seal, for the value m that leaf i seals.
 pub fn layer_root(
@@ -31,7 +33,7 @@ pub fn layer_root(
         (now (sig .entry)) (now (m .entry))) r ⌝ }
 {
     let n = kit.n;
-    let size = (2 * n + 3) * n;
+    let size = chain_bytes(n);
     let spot = Spot {
         layer: layer,
         tree: tree,
@@ -73,7 +75,7 @@ pub fn layers_root(
         (take (kit .n) m) (now (sig .entry))) r ⌝ }
 {
     let n = kit.n;
-    let step = (2 * n + 3) * n + (hp as usize) * n;
+    let step = layer_bytes(n, hp);
     let mut v = m;
     let mut t = tree;
     let mut k = i;

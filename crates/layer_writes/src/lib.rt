@@ -11,6 +11,8 @@ use chains::shown_in;
 use climbs::groves::Grove;
 use digits::chain_digits;
 use layer_walks::layer_root;
+use rows::sizes::chain_bytes;
+use rows::sizes::chain_count;
 use trees::paths::path_in;
 
 // A layer's part, for the value m that leaf i of its tree seals, with room lent for the digits.
@@ -33,7 +35,7 @@ fn layer_seal_over(
         (now (m .entry)) .result ⌝ }
 {
     let n = kit.n;
-    let size = (2 * n + 3) * n;
+    let size = chain_bytes(n);
     let spot = Spot {
         layer: layer,
         tree: tree,
@@ -62,7 +64,7 @@ pub fn layer_seal_in(
     ensures { λ _. ⌜ now (out .exit) ≡ layerSeal (hashesOf kit (now (seed .entry))) hp (now (sk .entry)) layer tree i
         (now (m .entry)) .result ⌝ }
 {
-    let len = 2 * kit.n + 3;
+    let len = chain_count(kit.n);
     let mut ds = [0u32; 67];
     layer_seal_over(kit, seed, sk, layer, tree, i, hp, m, &mut ds[0..len], out);
 }

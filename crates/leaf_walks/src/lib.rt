@@ -16,6 +16,8 @@ use climbs::Walked;
 use digits::chain_digits;
 use leaves::compress;
 use parts::put;
+use rows::sizes::chain_bytes;
+use rows::sizes::chain_count;
 
 // From the shown values on to the ends, in place. Returns the F calls.
 fn walk_in(kit: Kit, seed: &[u8], spot: Spot, ds: &[u32], io: &mut [u8]) -> u32
@@ -69,8 +71,8 @@ pub fn leaf_from(kit: Kit, seed: &[u8], spot: Spot, sig: &[u8], m: &[u8]) -> Wal
     ensures { λ r. ⌜ Leads (kit .n) (leafFrom (hashesOf kit (now (seed .entry)))
         (spot .layer) (spot .tree) (spot .pair) (now (sig .entry)) (now (m .entry))) r ⌝ }
 {
-    let len = 2 * kit.n + 3;
-    let size = len * kit.n;
+    let len = chain_count(kit.n);
+    let size = chain_bytes(kit.n);
     let mut ds = [0u32; 67];
     let mut ends = [0u8; 2144];
     leaf_from_over(kit, seed, spot, sig, m, &mut ds[0..len], &mut ends[0..size])

@@ -12,6 +12,8 @@ use calls::Kit;
 use calls::t;
 use chains::Spot;
 use chains::shown_in;
+use rows::sizes::chain_bytes;
+use rows::sizes::chain_count;
 
 // T over the ends of all chains.
 pub fn compress(kit: Kit, seed: &[u8], spot: Spot, ends: &[u8]) -> [u8; 32]
@@ -46,8 +48,8 @@ pub fn leaf(kit: Kit, seed: &[u8], sk: &[u8], spot: Spot) -> [u8; 32]
     ensures { λ r. ⌜ take (kit .n) r ≡ leafRun (hashesOf kit (now (seed .entry)))
         (spot .layer) (spot .tree) (spot .pair) (now (sk .entry)) .result ⌝ }
 {
-    let len = 2 * kit.n + 3;
-    let size = len * kit.n;
+    let len = chain_count(kit.n);
+    let size = chain_bytes(kit.n);
     let fifteens = [15u32; 67];
     let mut ends = [0u8; 2144];
     leaf_over(kit, seed, sk, spot, &fifteens[0..len], &mut ends[0..size])

@@ -9,11 +9,12 @@ use native.Mathlib.Omega.{arith}
 use lib.ListN.{length, take, drop}
 use Rattle.lists.proofs.Lent.{lent}
 use Rattle.rules.specs.Places.{Bytes}
-use Rattle.rules.specs.Layers.{layerBytes}
-use Rattle.rules.specs.Forest.{forestBytes}
+use Rattle.rules.specs.Layers.{chainBytes, layerBytes}
+use Rattle.rules.specs.Forest.{treeBytes, forestBytes}
 use Rattle.rules.specs.Sets.{Row, Legal}
 use Rattle.rules.proofs.SealLaws.{part-fits}
 use Rattle.rules.specs.Seal.{part, partStart, partLength}
+use Rattle.rows.specs.Shapes.{forestSize, layerSize}
 use Rattle.answers.specs.Answers.{settled}
 use Rattle.answers.specs.Lines.{first}
 use Rattle.part_reading.specs.Parts.{byteAt, partLines, partAnswer, partGiven, startGiven, lengthGiven}
@@ -110,15 +111,15 @@ later : (k : ℕ) → (k ≡ 0 → ⊥) → (k ≡ 1 → ⊥) → k ≡ suc (suc
 later k h g = omega (arith, h, g)
 
 pub later-start : (r : Row) (k : ℕ) {forest layer : ℕ} → (k ≡ 0 → ⊥) → (k ≡ 1 → ⊥)
-    → forest ≡ forestBytes (r .n) (r .a) (r .k) → layer ≡ layerBytes (r .n) (r .h')
+    → forest ≡ forestSize r → layer ≡ layerSize r
     → r .n + forest + (k - 2) * layer ≡ partStart r k
-unfolding partStart
+unfolding partStart forestBytes treeBytes layerBytes chainBytes
 later-start r k h g e f =
     ap₂ (λ x y. r .n + x + (k - 2) * y) e f ∙ sym (ap (partStart r) (later k h g))
 
-pub later-length : (r : Row) (k : ℕ) {layer : ℕ} → (k ≡ 0 → ⊥) → (k ≡ 1 → ⊥) → layer ≡ layerBytes (r .n) (r .h')
+pub later-length : (r : Row) (k : ℕ) {layer : ℕ} → (k ≡ 0 → ⊥) → (k ≡ 1 → ⊥) → layer ≡ layerSize r
     → layer ≡ partLength r k
-unfolding partLength
+unfolding partLength layerBytes chainBytes
 later-length r k h g f = f ∙ sym (ap (partLength r) (later k h g))
 
 -- Where a part starts fits a word.

@@ -5,8 +5,6 @@ ghost use Prim.Native.Nat.{_+_, _≤_};
 ghost use denote.Ref.{ptr};
 ghost use lib.ListN.{length};
 ghost use Rattle.rules.specs.Sets.{rowOf};
-ghost use Rattle.rules.specs.Layers.{layerBytes};
-ghost use Rattle.rules.specs.Forest.{forestBytes};
 ghost use Rattle.rules.specs.Seal.{partStart, partLength};
 ghost use Rattle.rows.specs.Rows.{ruledRow};
 ghost use Rattle.rows.specs.Ready.{Ready};
@@ -18,23 +16,8 @@ use answers::unless;
 use rows::Found;
 use rows::Row;
 use rows::find_row;
-
-// The bytes of the forest's part, and of a layer's.
-fn forest_size(row: Row) -> usize
-    requires { ⌜ Ready (ruledRow row) ⌝ }
-    ensures { λ r. ⌜ r ≡ forestBytes (row .n) (row .a) (row .k) ⌝ }
-{
-    let n = row.n;
-    (row.k as usize) * (n + (row.a as usize) * n)
-}
-
-fn layer_size(row: Row) -> usize
-    requires { ⌜ Ready (ruledRow row) ⌝ }
-    ensures { λ r. ⌜ r ≡ layerBytes (row .n) (row .hp) ⌝ }
-{
-    let n = row.n;
-    (2 * n + 3) * n + (row.hp as usize) * n
-}
+use rows::sizes::forest_bytes;
+use rows::sizes::layer_bytes;
 
 // Where a part starts, and how long it is.
 fn part_start(row: Row, number: u32) -> usize
@@ -42,8 +25,8 @@ fn part_start(row: Row, number: u32) -> usize
     ensures { λ r. ⌜ r ≡ partStart (ruledRow row) number ⌝ }
 {
     let n = row.n;
-    let forest = forest_size(row);
-    let layer = layer_size(row);
+    let forest = forest_bytes(n, row.a, row.k);
+    let layer = layer_bytes(n, row.hp);
     match number {
         0 => 0,
         1 => n,
@@ -56,8 +39,8 @@ fn part_length(row: Row, number: u32) -> usize
     ensures { λ r. ⌜ r ≡ partLength (ruledRow row) number ⌝ }
 {
     let n = row.n;
-    let forest = forest_size(row);
-    let layer = layer_size(row);
+    let forest = forest_bytes(n, row.a, row.k);
+    let layer = layer_bytes(n, row.hp);
     match number {
         0 => n,
         1 => forest,

@@ -16,6 +16,7 @@ use forest_walks::forest_root;
 use layer_walks::layers_root;
 use points::Pointed;
 use rows::Row;
+use rows::sizes::forest_bytes;
 
 // From the forest's part to what layer 0 seals, and from there up all layers.
 pub fn root_at(row: Row, seed: &[u8], pointed: Pointed, indices: &[u32], seal: &[u8]) -> Walked
@@ -28,7 +29,7 @@ pub fn root_at(row: Row, seed: &[u8], pointed: Pointed, indices: &[u32], seal: &
     let kit = kit_of(row);
     let tree = pointed.tree;
     let leaf = pointed.leaf;
-    let end = n + (row.k as usize) * (n + (row.a as usize) * n);
+    let end = n + forest_bytes(n, row.a, row.k);
     let low = forest_root(kit, seed, tree, leaf, row.a, indices, &seal[n..end]);
     let below = low.calls;
     let v = low.value;

@@ -20,7 +20,7 @@ use Rattle.rows.specs.Shapes.{forestSize, layerSize}
 
 module _ (r : Row) (ready : Ready r) where
   -- A tree's part, and the forest's, are small.
-  pub tree-room : r .n + r .a * r .n ≤ 544
+  tree-room : r .n + r .a * r .n ≤ 544
   tree-room = omega (arith, ready .fit .values, mul-le-mul (ready .fit .digits) (ready .fit .values))
 
   pub forest-room : forestSize r ≤ 19040
@@ -64,6 +64,12 @@ wood-fits k n h l = le-trans (mul-le-mul-left k l) (mul-le-mul-right {m = k} {n 
 -- A row's height times its n fits a word.
 pub small-product : (a n : ℕ) → a < 2 ^ 32 → n ≤ 32 → a * n ≤ 2 ^ 32 * 32
 small-product a n h l = le-trans (mul-le-mul-left a l) (mul-le-mul-right {m = a} {n = 2 ^ 32} 32 (omega arith))
+
+-- The parts of at most 35 trees fit a word.
+pub trees-fit : (k n a : ℕ) → k ≤ 35 → a < 2 ^ 32 → n ≤ 32 → k * (n + a * n) ≤ 35 * (32 + 2 ^ 32 * 32)
+trees-fit k n a h g l =
+    let tree : n + a * n ≤ 32 + 2 ^ 32 * 32 = omega (arith, small-product a n g l) in
+    mul-le-mul h tree
 
 -- ---- The pieces of a key, as code lends them
 

@@ -1,4 +1,6 @@
 // The sets (FIPS 205, table 2). A set's numbers stand in this table and nowhere else in the code.
+pub mod sizes;
+
 ghost use mathlib.Core.Path.{_≡_};
 ghost use Rattle.rules.specs.Sets.{rowOf};
 ghost use Rattle.rows.specs.Rows.{ruled};

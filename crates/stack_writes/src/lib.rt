@@ -8,6 +8,7 @@ ghost use Rattle.rows.specs.Shapes.{Stack};
 use calls::Kit;
 use layer_writes::layer_seal_in;
 use layer_writes::layer_up_in;
+use rows::sizes::layer_bytes;
 
 // All layers' parts, for the value m that leaf i of layer 0's tree seals; each layer above seals the root below. Size
 // is the number of a tree's leaves, 2^h'.
@@ -28,7 +29,7 @@ pub fn layers_seal_in(
         tree i (take (kit .n) m) .result ⌝ }
 {
     let n = kit.n;
-    let step = (2 * n + 3) * n + (hp as usize) * n;
+    let step = layer_bytes(n, hp);
     let top = d - 1;
     let mut v = m;
     let mut t = tree;

@@ -60,14 +60,16 @@ module _ (w : Hashes) (t p a : ℕ) where
   roots-step ds j X h =
       rw (drop-cons ds j 0 h, add-one j, first-root (j * 2 ^ a + getD ds j 0) X)
 
-  pub roots-turn : (ds : List ℕ) (j i at : ℕ) (sig done v : Bytes) {whole : Bytes} → j < length ds
-      → i ≡ j * 2 ^ a + getD ds j 0 → v ≡ treeRun w t p a i (take (w .n + a * w .n) (drop at sig)) .result
+  pub roots-turn : (ds : List ℕ) (j i at part : ℕ) (sig done v : Bytes) {whole : Bytes} → j < length ds
+      → part ≡ w .n + a * w .n → i ≡ j * 2 ^ a + getD ds j 0
+      → v ≡ treeRun w t p a i (take part (drop at sig)) .result
       → done ++ forestWalk w t p a j (drop j ds) (drop at sig) .result ≡ whole
-      → (done ++ v) ++ forestWalk w t p a (j + 1) (drop (j + 1) ds) (drop (at + (w .n + a * w .n)) sig) .result ≡ whole
-  roots-turn ds j i at sig done v h e f q =
+      → (done ++ v) ++ forestWalk w t p a (j + 1) (drop (j + 1) ds) (drop (at + part) sig) .result ≡ whole
+  roots-turn ds j i at part sig done v h long e f q =
       append-assoc done v _
-      ∙ ap (λ x. done ++ x) (ap₂ _++_ (f ∙ ap (λ k. treeRun w t p a k (take (w .n + a * w .n) (drop at sig)) .result) e)
-      (ap (λ x. forestWalk w t p a (j + 1) (drop (j + 1) ds) x .result) (sym (drop-drop (w .n + a * w .n) at sig)))
+      ∙ ap (λ x. done ++ x) (ap₂ _++_ (f ∙ ap₂ (λ k m. treeRun w t p a k (take m (drop at sig)) .result) e long)
+      (ap (λ x. forestWalk w t p a (j + 1) (drop (j + 1) ds) x .result)
+      (sym (drop-drop part at sig) ∙ ap (λ m. drop m (drop at sig)) long))
       ∙ sym (roots-step ds j (drop at sig) h))
       ∙ q
 

@@ -17,6 +17,7 @@ use climbs::Walked;
 use climbs::climb;
 use climbs::groves::Grove;
 use parts::put;
+use rows::sizes::tree_bytes;
 
 // The root of a forest's tree, from its secret value and its path, at leaf i of all trees.
 fn tree_root(kit: Kit, seed: &[u8], tree: u64, pair: u32, a: u32, i: u32, part: &[u8]) -> Walked
@@ -53,7 +54,7 @@ pub fn roots_in(
         (now (ds .entry)) (now (sig .entry)) .calls) ⌝ }
 {
     let n = kit.n;
-    let step = n + (a as usize) * n;
+    let step = tree_bytes(n, a);
     let mut calls: u32 = 0;
     let mut j: usize = 0;
     let mut base: u32 = 0;

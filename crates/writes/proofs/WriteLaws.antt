@@ -19,15 +19,16 @@ use Rattle.rows.specs.Ready.{Ready}
 use Rattle.rows.specs.Shapes.{forestSize, layerSize}
 use Rattle.rows.proofs.SizeLaws.{seal-size}
 
-module _ (r : Row) (ready : Ready r) (out : Bytes) (long : length out + r .n ≡ r .sealBytes) where
+module _ (r : Row) (ready : Ready r) (out : Bytes) (long : length out + r .n ≡ r .sealBytes) (end : ℕ)
+    (e : end ≡ forestSize r) where
   -- The forest's part of it, and the layers' parts.
-  pub forest-long : length (take (forestSize r - 0) out) ≡ forestSize r
-  forest-long = front-long (forestSize r) out (omega (arith, long, seal-size r ready))
+  pub forest-long : length (take (end - 0) out) ≡ end
+  forest-long = front-long end out (omega (arith, e, long, seal-size r ready))
 
-  pub layers-long : length (take (length out - forestSize r) (drop (forestSize r) out)) ≡ r .d * layerSize r
+  pub layers-long : length (take (length out - end) (drop end out)) ≡ r .d * layerSize r
   layers-long =
-      let rest = rest-long (forestSize r) out (omega (arith, long, seal-size r ready)) in
-      omega (arith, rest, long, seal-size r ready)
+      let rest = rest-long end out (omega (arith, e, long, seal-size r ready)) in
+      omega (arith, rest, e, long, seal-size r ready)
 
 -- The forest's part over the first m bytes, and over the rest the layers' parts for the value that it leads to.
 module _ (r : Row) (f : Family (r .n) (r .m)) (sk pk : Bytes) (at : Pointed) where

@@ -17,6 +17,7 @@ use forest_walks::forest_root;
 use forest_writes::forest_seal_in;
 use points::Pointed;
 use rows::Row;
+use rows::sizes::forest_bytes;
 use stack_writes::layers_seal_in;
 
 // The forest's part, and the value that it leads to, which layer 0 seals (lines 11 to 15).
@@ -87,8 +88,7 @@ pub fn written_in(
     ensures { λ _. ⌜ now (out .exit) ≡ written (ruledRow row) (familyFor (ruledRow row)) (now (sk .entry))
         (now (seed .entry)) (at pointed (now (indices .entry))) .result ⌝ }
 {
-    let n = row.n;
-    let end = (row.k as usize) * (n + (row.a as usize) * n);
+    let end = forest_bytes(row.n, row.a, row.k);
     let v = forest_up_in(row, seed, sk, pointed, indices, &mut out[0..end]);
     layers_in(row, seed, sk, pointed, v, &mut out[end..]);
 }

@@ -2,7 +2,7 @@
 -- the calls.
 -- Assumes nothing.
 use mathlib.Core.Path.{_≡_, refl, sym, ap, ap₂, _∙_}
-use Prim.Native.Nat.{ℕ, suc, _+_, _-_, _*_, _^_, _≤_, _<_}
+use Prim.Native.Nat.{ℕ, suc, _+_, _-_, _*_, _≤_, _<_}
 use native.Mathlib.Nat.{sub-zero, mod-lt}
 use native.Mathlib.Numerals.{unary-clauses}
 use native.Mathlib.Omega.{arith}
@@ -17,7 +17,6 @@ use Rattle.rules.specs.Calls.{F, of}
 use Rattle.rules.specs.Layers.{layerRoot}
 use Rattle.counts.specs.Counts.{count}
 use Rattle.calls.specs.Hashes.{hashesOf}
-use Rattle.rows.proofs.SizeLaws.{size-fits, small-product}
 use Rattle.climbs.specs.Leads.{Leads}
 use Rattle.climbs.proofs.LeadLaws.{leads-by}
 use Rattle.layer_walks.proofs.UpLaws.{upRun, up-result, up-calls, up-start, up-end, up-most}
@@ -37,51 +36,51 @@ Inv-loop kit seed hp size d tree i sig n step v₀ t₀ k₀ calls₀ at₀ j₀
 abbrev μ-loop : tie.MeasureT-loop
 μ-loop kit seed hp size d tree i sig n step v₀ t₀ k₀ calls₀ at₀ j₀ v t k calls at j = d - j
 
--- The bytes of a layer's part fit a word.
-step-fits : (hp n : ℕ) → hp < 2 ^ 32 → n ≤ 32 → (2 * n + 3) * n + hp * n ≤ 2144 + 2 ^ 32 * 32
-step-fits hp n h l = omega (arith, size-fits n l, small-product hp n h l)
+-- The bytes of a layer's part, as the code worked them out.
+abbrev part : tie.At-loop Inv-loop μ-loop → ℕ
+part c = c .before .layer-bytes .result
+
+abbrev start : tie.At-loop Inv-loop μ-loop → tie.Start Inv-loop μ-loop
+start c = c .before .before .before .before
 
 -- In a turn there is a part left.
-room : (c : tie.In-loop Inv-loop μ-loop) → let a = c .before .before .before .before .args in
-    c .before .loop .at + ((2 * a .kit .n + 3) * a .kit .n + a .hp * a .kit .n) ≤ length (a .sig .now)
+room : (c : tie.In-loop Inv-loop μ-loop)
+    → c .before .loop .at + part (c .before) ≤ length (start (c .before) .args .sig .now)
 room c =
-    let s = c .before .before .before .before in
-    let a = s .args in
+    let s = start (c .before) in
     let l = c .before .loop in
     omega (
       arith,
-      piece-room (l .j) (a .d) ((2 * a .kit .n + 3) * a .kit .n + a .hp * a .kit .n) (c .loop-test .taken),
-      s .pre .sig-long,
+      piece-room (l .j) (s .args .d) (part (c .before)) (c .loop-test .taken),
+      s .pre .sig-long ∙ ap (λ x. s .args .d * x) (sym (c .before .before .layer-bytes .ensures)),
       l .inv .1,
     )
 
 -- A tree has a leaf.
 leaves : (c : tie.After-u Inv-loop μ-loop)
-    → 0 < c .before .before .before .before .before .before .before .before .before .args .size
+    → 0 < start (c .before .before .before .before .before .before) .args .size
 leaves c =
-    let s = c .before .before .before .before .before .before .before .before .before in
+    let s = start (c .before .before .before .before .before .before) in
     rw (s .pre .leaves) (pow-pos (s .args .hp))
 
 -- What a turn learnt of the layer it went through.
 layer : (c : tie.After-u Inv-loop μ-loop) → let turn = c .before .before .before .before .before in
-    let a = turn .before .before .before .before .args in
+    let a = start (turn .before) .args in
     let l = turn .before .loop in
-    let n = a .kit .n in
-    Leads n (layerRoot (hashesOf (a .kit) (a .seed .now)) (a .hp) (l .j) (l .t) (l .k)
-    (take ((2 * n + 3) * n + a .hp * n) (drop (l .at) (a .sig .now))) (take n (l .v)))
+    Leads (a .kit .n) (layerRoot (hashesOf (a .kit) (a .seed .now)) (a .hp) (l .j) (l .t) (l .k)
+    (take (part (turn .before)) (drop (l .at) (a .sig .now))) (take (a .kit .n) (l .v)))
     (c .before .layer-root .result)
 layer c =
     let turn = c .before .before .before .before .before in
-    let a = turn .before .before .before .before .args in
+    let a = start (turn .before) .args in
     let l = turn .before .loop in
-    let n = a .kit .n in
     leads-by (ap₂ (layerRoot (hashesOf (a .kit) (a .seed .now)) (a .hp) (l .j) (l .t) (l .k))
-    (lent (l .at) ((2 * n + 3) * n + a .hp * n) (a .sig .now)) (front n (l .v)))
+    (lent (l .at) (part (turn .before)) (a .sig .now)) (front (a .kit .n) (l .v)))
     (c .before .layer-root .ensures)
 
 loop-holds : tie.Need-loop-holds Inv-loop μ-loop
 loop-holds c =
-    let a = c .before .before .args in
+    let a = c .before .before .before .args in
     let w = hashesOf (a .kit) (a .seed .now) in (
       omega arith,
       omega arith,
@@ -93,19 +92,19 @@ loop-holds c =
 layer-root-requires : tie.Need-layer-root-requires Inv-loop μ-loop
 layer-root-requires c κs =
     let turn = c .before .before .before in
-    let s = turn .before .before .before .before in
+    let s = start (turn .before) in
     let a = s .args in
     let l = turn .before .loop in
     let n = a .kit .n in (
       s .pre .small,
       ap (λ k. length (take k (l .v))) (sub-zero n) ∙ length-take-le n (l .v) (omega (arith, l .inv .4, s .pre .small)),
-      lent-length (l .at) ((2 * n + 3) * n + a .hp * n) (a .sig .now) (room turn),
+      lent-length (l .at) (part (turn .before)) (a .sig .now) (room turn) ∙ turn .before .before .layer-bytes .ensures,
     )
 
 add-calls : tie.Need-add-calls Inv-loop μ-loop
 add-calls c =
     let turn = c .before .before .before .before .before in
-    let s = turn .before .before .before .before in
+    let s = start (turn .before) in
     let a = s .args in
     let l = turn .before .loop in
     let w = hashesOf (a .kit) (a .seed .now) in
@@ -114,8 +113,9 @@ add-calls c =
       arith,
       layer c .counted,
       l .inv .3,
-      up-turn-calls w (a .hp) (a .d) (l .j) (l .t) (l .k) (l .at) (a .size) (take (a .kit .n) (l .v)) (a .sig .now) v
-          (turn .loop-test .taken) (s .pre .leaves) (layer c .value-is),
+      up-turn-calls w (a .hp) (a .d) (l .j) (l .t) (l .k) (l .at) (a .size) (part (turn .before))
+          (take (a .kit .n) (l .v)) (a .sig .now) v (turn .loop-test .taken) (s .pre .leaves)
+          (turn .before .before .layer-bytes .ensures) (layer c .value-is),
       up-most w (a .hp) (a .d) 0 (a .tree) (a .i) (take (a .kit .n) (a .m)) (a .sig .now) (s .pre .small),
       s .pre .few,
     )
@@ -123,22 +123,23 @@ add-calls c =
 loop-again : tie.Need-loop-again Inv-loop μ-loop
 loop-again c =
     let turn = c .before .before .before .before .before in
-    let s = turn .before .before .before .before in
+    let s = start (turn .before) in
     let a = s .args in
     let l = turn .before .loop in
     let w = hashesOf (a .kit) (a .seed .now) in
     let m = take (a .kit .n) (l .v) in
+    let e = turn .before .before .layer-bytes .ensures in
     let v = take (a .kit .n) (c .before .layer-root .result .value) in (
       omega arith,
       omega (arith, l .inv .1),
-      up-turn w (a .hp) (a .d) (l .j) (l .t) (l .k) (l .at) (a .size) m (a .sig .now) v (turn .loop-test .taken)
-          (s .pre .leaves) (layer c .value-is) (l .inv .2),
+      up-turn w (a .hp) (a .d) (l .j) (l .t) (l .k) (l .at) (a .size) (part (turn .before)) m (a .sig .now) v
+          (turn .loop-test .taken) (s .pre .leaves) e (layer c .value-is) (l .inv .2),
       omega (
         arith,
         layer c .counted,
         l .inv .3,
-        up-turn-calls w (a .hp) (a .d) (l .j) (l .t) (l .k) (l .at) (a .size) m (a .sig .now) v
-            (turn .loop-test .taken) (s .pre .leaves) (layer c .value-is),
+        up-turn-calls w (a .hp) (a .d) (l .j) (l .t) (l .k) (l .at) (a .size) (part (turn .before)) m (a .sig .now) v
+            (turn .loop-test .taken) (s .pre .leaves) e (layer c .value-is),
       ),
       layer c .value-long,
     )
@@ -146,7 +147,7 @@ loop-again c =
 returns : tie.Need-returns Inv-loop μ-loop
 returns c =
     let l = c .before .loop in
-    let s = c .before .before .before .before in
+    let s = start (c .before) in
     let a = s .args in
     let w = hashesOf (a .kit) (a .seed .now) in
     let m = take (a .kit .n) (a .m) in
@@ -167,7 +168,7 @@ returns c =
 
 cast : tie.Need-cast-k Inv-loop μ-loop
 cast c =
-    let s = c .before .before .before .before .before .before .before .before .before in
+    let s = start (c .before .before .before .before .before .before) in
     omega (
       arith,
       mod-lt (c .before .before .before .before .before .before .loop .t) (leaves c),
@@ -177,25 +178,13 @@ cast c =
 pub layers-root-spec : {M : Type 1} → statement M
 layers-root-spec =
     tie.close
-    (tie.spec Inv-loop μ-loop (λ c. omega (arith, c .before .before .pre .small))
-    (λ c. omega (arith, c .before .before .pre .small))
-    (λ c. omega (arith, size-fits (c .before .before .args .kit .n) (c .before .before .pre .small)))
-    (λ c. omega (
-      arith,
-      step-fits (c .before .before .args .hp) (c .before .before .args .kit .n)
-          (c .before .before .fits .hp .fits) (c .before .before .pre .small),
-    ))
-    (λ c. omega (
-      arith,
-      step-fits (c .before .before .args .hp) (c .before .before .args .kit .n)
-          (c .before .before .fits .hp .fits) (c .before .before .pre .small),
-    ))
+    (tie.spec Inv-loop μ-loop (λ c κs. search needs)
     loop-holds (λ c. omega (arith, room c))
     (λ c. search needs) (λ c. search needs) (λ c. omega (arith, room c)) (λ c. search needs) (λ c. search needs)
     (λ c. omega (
       arith,
       c .before .before .before .loop .inv .4,
-      c .before .before .before .before .before .before .pre .small,
+      start (c .before .before .before) .pre .small,
     ))
     layer-root-requires add-calls leaves cast leaves (λ c. search needs) (λ c. search needs) loop-again
     returns)

@@ -4,8 +4,6 @@ use mathlib.Core.Path.{_≡_, sym, ap}
 use Prim.Native.Nat.{_≤_}
 use native.Mathlib.Omega.{arith}
 use Rattle.rows.specs.Rows.{ruledRow}
-use Rattle.rules.specs.Layers.{chainBytes, layerBytes}
-use Rattle.rules.specs.Forest.{treeBytes, forestBytes}
 use Rattle.rules.specs.Seal.{partStart}
 use Rattle.rows.proofs.SizeLaws.{forest-room, layer-room}
 use Rattle.part_reading.proofs.PartLaws.{later-start, start-room}
@@ -14,17 +12,15 @@ use Rattle.part_reading.proofs.part_start.Statement.{statement}
 use Rattle.part_reading.proofs.part_start.Tie as tie
 
 -- The forest's part and a layer's are small.
-forest-small : (c : tie.After-layer-size) → c .before .forest-size .result ≤ 19040
-unfolding forestBytes treeBytes
+forest-small : (c : tie.After-layer-bytes) → c .before .forest-bytes .result ≤ 19040
 forest-small c =
     let s = c .before .before in
-    rw (c .before .forest-size .ensures) (forest-room (ruledRow (s .args .row)) (s .pre .0))
+    rw (c .before .forest-bytes .ensures) (forest-room (ruledRow (s .args .row)) (s .pre .0))
 
-layer-small : (c : tie.After-layer-size) → c .layer-size .result ≤ 2656
-unfolding layerBytes chainBytes
+layer-small : (c : tie.After-layer-bytes) → c .layer-bytes .result ≤ 2656
 layer-small c =
     let s = c .before .before in
-    rw (c .layer-size .ensures) (layer-room (ruledRow (s .args .row)) (s .pre .0))
+    rw (c .layer-bytes .ensures) (layer-room (ruledRow (s .args .row)) (s .pre .0))
 
 add-result : tie.Need-add-result
 add-result c =
@@ -33,14 +29,14 @@ add-result c =
 mul-result : tie.Need-mul-result
 mul-result c =
     let s = c .before .before .before in
-    let room = start-room (s .args .number) (s .args .row .d) (c .before .layer-size .result) (s .pre .1)
+    let room = start-room (s .args .number) (s .args .row .d) (c .before .layer-bytes .result) (s .pre .1)
     (s .pre .0 .fit .layers) (layer-small (c .before)) in
     record { fits = omega (arith, room) }
 
 add-result-2 : tie.Need-add-result-2
 add-result-2 c =
     let s = c .before .before .before in
-    let room = start-room (s .args .number) (s .args .row .d) (c .before .layer-size .result) (s .pre .1)
+    let room = start-room (s .args .number) (s .args .row .d) (c .before .layer-bytes .result) (s .pre .1)
     (s .pre .0 .fit .layers) (layer-small (c .before)) in
     record { fits = omega (arith, room, forest-small (c .before), s .pre .0 .fit .values) }
 
@@ -56,7 +52,7 @@ returns-3 : tie.Need-returns-3
 returns-3 c =
     let a = c .before .before .before .args in
     later-start (ruledRow (a .row)) (a .number) (c .match .rest .0 .1) (c .match .rest .1)
-    (c .before .before .forest-size .ensures) (c .before .layer-size .ensures)
+    (c .before .before .forest-bytes .ensures) (c .before .layer-bytes .ensures)
 
 pub part-start-spec : {M : Type 1} → statement M
 part-start-spec =

@@ -1,9 +1,9 @@
 -- `layers_seal_in` writes the layers' parts one after the other, each for the root that the one below leads to: what is
 -- written and what is left to write are the whole.
 -- Assumes nothing.
-use mathlib.Core.Path.{_≡_, refl, ap, _∙_}
+use mathlib.Core.Path.{_≡_, refl, sym, ap, _∙_}
 use mathlib.Core.List.{_++_}
-use Prim.Native.Nat.{_+_, _-_, _*_, _^_, _≤_, _<_}
+use Prim.Native.Nat.{ℕ, _+_, _-_, _*_, _^_, _≤_, _<_}
 use native.Mathlib.Nat.{mod-lt}
 use native.Mathlib.Numerals.{unary-clauses}
 use native.Mathlib.Omega.{arith}
@@ -14,7 +14,6 @@ use Rattle.lists.proofs.Filling.{part-written, part-length, lent-length, rest-r
 use Rattle.lists.proofs.Lent.{front-long}
 use Rattle.rules.specs.Layers.{layersSeal}
 use Rattle.calls.specs.Hashes.{hashesOf}
-use Rattle.rows.proofs.SizeLaws.{size-fits, small-product}
 use Rattle.stack_writes.proofs.StackLaws.{leaf-room, layers-turn, layers-end}
 use Rattle.stack_writes.proofs.layers_seal_in.Statement.{statement}
 use Rattle.stack_writes.proofs.layers_seal_in.Tie as tie
@@ -28,53 +27,47 @@ Inv-loop kit seed sk hp size d tree i out₀ n step top v₀ t₀ k₀ at₀ j�
 abbrev μ-loop : tie.MeasureT-loop
 μ-loop kit seed sk hp size d tree i out₀ n step top v₀ t₀ k₀ at₀ j₀ out v t k at j = top - j
 
--- The bytes of a layer's part fit a word.
-part-fits : (c : tie.After-slice-known Inv-loop μ-loop) → let a = c .before .before .before .args in
-    (2 * a .kit .n + 3) * a .kit .n + a .hp * a .kit .n ≤ 2144 + 2 ^ 32 * 32
-part-fits c =
-    let s = c .before .before .before in
-    let n = s .args .kit .n in
-    omega (arith, size-fits n (s .pre .0 .small), small-product (s .args .hp) n (s .fits .hp .fits) (s .pre .0 .small))
+-- The bytes of a layer's part, as the code worked them out.
+abbrev part : tie.At-loop Inv-loop μ-loop → ℕ
+part c = c .before .layer-bytes .result
+
+abbrev start : tie.At-loop Inv-loop μ-loop → tie.Start Inv-loop μ-loop
+start c = c .before .before .before .before .before
+
+-- All layers' parts fill the bytes lent.
+filled : (c : tie.At-loop Inv-loop μ-loop) → length (c .loop .out) ≡ start c .args .d * part c
+filled c =
+    let s = start c in
+    c .loop .inv .4 ∙ s .pre .0 .sig-long ∙ ap (λ x. s .args .d * x) (sym (c .before .layer-bytes .ensures))
 
 -- In a turn there is room for a layer's part.
-room : (c : tie.In-loop Inv-loop μ-loop) → let a = c .before .before .before .before .before .args in
-    c .before .loop .at + ((2 * a .kit .n + 3) * a .kit .n + a .hp * a .kit .n) ≤ length (c .before .loop .out)
+room : (c : tie.In-loop Inv-loop μ-loop)
+    → c .before .loop .at + part (c .before) ≤ length (c .before .loop .out)
 room c =
-    let s = c .before .before .before .before .before in
-    let a = s .args in
     let l = c .before .loop in
     omega (
       arith,
-      piece-room (l .j) (a .d) ((2 * a .kit .n + 3) * a .kit .n + a .hp * a .kit .n) (omega arith),
-      s .pre .0 .sig-long,
+      piece-room (l .j) (start (c .before) .args .d) (part (c .before)) (omega arith),
+      filled (c .before),
       l .inv .1,
-      l .inv .4,
     )
 
 -- After the loop there is room for one more, and no more.
-rest : (c : tie.After-loop Inv-loop μ-loop) → let a = c .before .before .before .before .before .args in
-    c .before .loop .at + ((2 * a .kit .n + 3) * a .kit .n + a .hp * a .kit .n) ≡ length (c .before .loop .out)
+rest : (c : tie.After-loop Inv-loop μ-loop)
+    → c .before .loop .at + part (c .before) ≡ length (c .before .loop .out)
 rest c =
-    let s = c .before .before .before .before .before in
-    let a = s .args in
+    let s = start (c .before) in
     let l = c .before .loop in
-    let last : a .d ≡ l .j + 1 = omega (arith, s .pre .0 .some) in
-    omega (
-      arith,
-      ap (λ x. x * ((2 * a .kit .n + 3) * a .kit .n + a .hp * a .kit .n)) last,
-      s .pre .0 .sig-long,
-      l .inv .1,
-      l .inv .4,
-    )
+    let last : s .args .d ≡ l .j + 1 = omega (arith, s .pre .0 .some) in
+    omega (arith, ap (λ x. x * part (c .before)) last, filled (c .before), l .inv .1)
 
 -- At each layer the value that it seals has n bytes, and there is room above its leaf's number.
-value-long : (c : tie.At-loop Inv-loop μ-loop) → c .before .before .before .before .args .kit .n ≤ length (c .loop .v)
-value-long c = omega (arith, c .loop .inv .3, c .before .before .before .before .pre .0 .small)
+value-long : (c : tie.At-loop Inv-loop μ-loop) → start c .args .kit .n ≤ length (c .loop .v)
+value-long c = omega (arith, c .loop .inv .3, start c .pre .0 .small)
 
-leaf-fits : (c : tie.At-loop Inv-loop μ-loop)
-    → c .loop .k + 2 ^ c .before .before .before .before .args .hp ≤ 2 ^ 32
+leaf-fits : (c : tie.At-loop Inv-loop μ-loop) → c .loop .k + 2 ^ start c .args .hp ≤ 2 ^ 32
 leaf-fits c =
-    let s = c .before .before .before .before in
+    let s = start c in
     leaf-room (s .args .hp) (s .args .size) (c .loop .k) (s .pre .0 .leaves) (s .pre .1) (c .loop .inv .2)
 
 loop-holds : tie.Need-loop-holds Inv-loop μ-loop
@@ -83,35 +76,35 @@ loop-holds c = (omega arith, omega arith, search needs, search needs, refl, simp
 layer-up-in-requires : tie.Need-layer-up-in-requires Inv-loop μ-loop
 layer-up-in-requires c κs =
     let turn = c .before .before .before in
-    let s = turn .before .before .before .before .before in
+    let s = start (turn .before) in
     let a = s .args in
     let l = turn .before .loop in
     let n = a .kit .n in (
       s .pre .0 .small,
       front-long n (l .v) (value-long (turn .before)),
       leaf-fits (turn .before),
-      lent-length (l .at) ((2 * n + 3) * n + a .hp * n) (l .out) (room turn),
+      lent-length (l .at) (part (turn .before)) (l .out) (room turn) ∙ turn .before .before .layer-bytes .ensures,
     )
 
 -- A tree has a leaf.
 leaves : (c : tie.After-slice-known2 Inv-loop μ-loop) → let turn = c .before .before .before .before .before .before in
-    0 < turn .before .before .before .before .before .args .size
+    0 < start (turn .before) .args .size
 leaves c = omega (arith, c .before .before .before .before .before .before .before .loop .inv .2)
 
 cast-k : tie.Need-cast-k Inv-loop μ-loop
 cast-k c =
     let turn = c .before .before .before .before .before .before in
-    let s = turn .before .before .before .before .before in
+    let s = start (turn .before) in
     omega (arith, mod-lt (turn .before .loop .t) (leaves c), s .pre .1)
 
 loop-again : tie.Need-loop-again Inv-loop μ-loop
 loop-again c =
     let turn = c .before .before .before .before .before .before in
-    let s = turn .before .before .before .before .before in
+    let s = start (turn .before) in
     let a = s .args in
     let l = turn .before .loop in
     let n = a .kit .n in
-    let step = (2 * n + 3) * n + a .hp * n in
+    let step = part (turn .before) in
     let up = c .before .before .layer-up-in in
     let ys = up .last .1 .1 .1 .1 .1 .1 .1 .1 .0 in
     let long = up .kept .1 .1 .1 .1 .1 .1 .1 .1 .0 ∙ lent-length (l .at) step (l .out) (room turn) in (
@@ -129,18 +122,19 @@ loop-again c =
 layer-seal-in-requires : tie.Need-layer-seal-in-requires Inv-loop μ-loop
 layer-seal-in-requires c κs =
     let end = c .before .before .before in
-    let s = end .before .before .before .before .before in
+    let s = start (end .before) in
     let l = end .before .loop in (
       s .pre .0 .small,
       front-long (s .args .kit .n) (l .v) (value-long (end .before)),
       leaf-fits (end .before),
-      ap length (rest-read (l .at) (l .out)) ∙ length-drop (l .at) (l .out) ∙ omega (arith, rest end),
+      ap length (rest-read (l .at) (l .out)) ∙ length-drop (l .at) (l .out)
+          ∙ omega (arith, rest end, end .before .before .layer-bytes .ensures),
     )
 
 returns : tie.Need-returns Inv-loop μ-loop
 returns c =
     let end = c .before .before .before .before .before .before in
-    let a = end .before .before .before .before .before .args in
+    let a = start (end .before) .args in
     let l = end .before .loop in
     let last = c .before .before .layer-seal-in in
     let ys = last .last .1 .1 .1 .1 .1 .1 .1 .1 .0 in
@@ -151,9 +145,7 @@ returns c =
 pub layers-seal-in-spec : {M : Type 1} → statement M
 layers-seal-in-spec =
     tie.close
-    (tie.spec Inv-loop μ-loop (λ c. omega (arith, c .before .before .before .pre .0 .small))
-    (λ c. omega (arith, c .before .before .before .pre .0 .small)) (λ c. omega (arith, part-fits c))
-    (λ c. omega (arith, part-fits c)) (λ c. omega (arith, part-fits c)) (λ c. search needs) loop-holds
+    (tie.spec Inv-loop μ-loop (λ c κs. search needs) (λ c. search needs) loop-holds
     (λ c. omega (arith, room c)) (λ c. search needs) (λ c. search needs)
     (λ c. omega (arith, value-long (c .before .before))) (λ c. omega arith) (λ c. search needs)
     (λ c. omega (arith, room (c .before .before))) layer-up-in-requires leaves cast-k leaves (λ c. search needs)

@@ -1,9 +1,9 @@
 -- `roots_in` writes the trees' roots one after the other: what is written and what is left to walk are the whole, and
 -- the calls are as many as the trees walked.
 -- Assumes nothing.
-use mathlib.Core.Path.{_≡_, refl, ap, ap₂, _∙_}
+use mathlib.Core.Path.{_≡_, refl, sym, ap, ap₂, _∙_}
 use mathlib.Core.List.{_++_}
-use Prim.Native.Nat.{_+_, _-_, _*_, _^_, _≤_, _<_}
+use Prim.Native.Nat.{ℕ, _+_, _-_, _*_, _^_, _≤_, _<_}
 use native.Mathlib.Nat.{sub-zero}
 use native.Mathlib.Omega.{arith}
 use lib.ListN.{length, take, drop, getD, length-take}
@@ -18,7 +18,6 @@ use Rattle.climbs.specs.Leads.{Leads}
 use Rattle.climbs.proofs.LeadLaws.{leads-by}
 use Rattle.tree_walks.specs.Tree.{treeRun}
 use Rattle.tree_walks.proofs.TreeLaws.{next-tree, next-place, tree-calls, roots-turn, roots-end, roots-calls}
-use Rattle.rows.proofs.SizeLaws.{small-product}
 use Rattle.tree_walks.proofs.roots_in.Statement.{statement}
 use Rattle.tree_walks.proofs.roots_in.Tie as tie
 
@@ -32,26 +31,30 @@ Inv-loop kit seed tree pair a size ds sig out₀ n step calls₀ j₀ base₀ at
 abbrev μ-loop : tie.MeasureT-loop
 μ-loop kit seed tree pair a size ds sig out₀ n step calls₀ j₀ base₀ at₀ o₀ out calls j base at o = length ds - j
 
+-- The bytes of a tree's part, as the code worked them out.
+abbrev part : tie.At-loop Inv-loop μ-loop → ℕ
+part c = c .before .tree-bytes .result
+
+abbrev start : tie.At-loop Inv-loop μ-loop → tie.Start Inv-loop μ-loop
+start c = c .before .before .before .before .before .before
+
 -- In a turn there is a part left, room for its root, and room for its leaves' numbers.
 record Room (c : tie.In-loop Inv-loop μ-loop) : Type 0 where
-  part-left : let a = c .before .before .before .before .before .before .args in
-      c .before .loop .at + (a .kit .n + a .a * a .kit .n) ≤ length (a .sig .now)
-  root-room : let a = c .before .before .before .before .before .before .args in
-      c .before .loop .o + a .kit .n ≤ length (c .before .loop .out)
-  leaf-room : let a = c .before .before .before .before .before .before .args in
-      c .before .loop .base + a .size ≤ length (a .ds .now) * a .size
+  part-left : c .before .loop .at + part (c .before) ≤ length (start (c .before) .args .sig .now)
+  root-room : c .before .loop .o + start (c .before) .args .kit .n ≤ length (c .before .loop .out)
+  leaf-room : let a = start (c .before) .args in c .before .loop .base + a .size ≤ length (a .ds .now) * a .size
 
 room : (c : tie.In-loop Inv-loop μ-loop) → Room c
 room c =
-    let s = c .before .before .before .before .before .before in
+    let s = start (c .before) in
     let a = s .args in
     let l = c .before .loop in
     let many = length (a .ds .now) in
     record {
       part-left = omega (
         arith,
-        piece-room (l .j) many (a .kit .n + a .a * a .kit .n) (c .loop-test .taken),
-        s .pre .1 .0,
+        piece-room (l .j) many (part (c .before)) (c .loop-test .taken),
+        s .pre .1 .0 ∙ ap (λ x. many * x) (sym (c .before .before .tree-bytes .ensures)),
         l .inv .2,
       );
       root-room = omega (
@@ -65,41 +68,31 @@ room c =
     }
 
 -- The digit of a turn is below the number of a tree's leaves.
-digit : (c : tie.In-loop Inv-loop μ-loop) → let a = c .before .before .before .before .before .before .args in
+digit : (c : tie.In-loop Inv-loop μ-loop) → let a = start (c .before) .args in
     getD (a .ds .now) (c .before .loop .j) 0 < a .size
-digit c = c .before .before .before .before .before .before .pre .0 .3 (c .before .loop .j)
+digit c = start (c .before) .pre .0 .3 (c .before .loop .j)
 
 -- What a turn learnt of the tree it went through.
 tree : (c : tie.After-tree-root Inv-loop μ-loop) → let turn = c .before .before .before in
-    let a = turn .before .before .before .before .before .before .args in
+    let a = start (turn .before) .args in
     let l = turn .before .loop in
     Leads (a .kit .n) (treeRun (hashesOf (a .kit) (a .seed .now)) (a .tree) (a .pair) (a .a)
-    (l .base + getD (a .ds .now) (l .j) 0) (take (a .kit .n + a .a * a .kit .n) (drop (l .at) (a .sig .now))))
+    (l .base + getD (a .ds .now) (l .j) 0) (take (part (turn .before)) (drop (l .at) (a .sig .now))))
     (c .tree-root .result)
 tree c =
     let turn = c .before .before .before in
-    let a = turn .before .before .before .before .before .before .args in
+    let a = start (turn .before) .args in
     let l = turn .before .loop in
     leads-by (ap (treeRun (hashesOf (a .kit) (a .seed .now)) (a .tree) (a .pair) (a .a)
-    (l .base + getD (a .ds .now) (l .j) 0)) (lent (l .at) (a .kit .n + a .a * a .kit .n) (a .sig .now)))
+    (l .base + getD (a .ds .now) (l .j) 0)) (lent (l .at) (part (turn .before)) (a .sig .now)))
     (c .tree-root .ensures)
 
 -- It makes one call.
 made : (c : tie.After-tree-root Inv-loop μ-loop) → c .tree-root .result .calls ≡ 1
 made c =
     let turn = c .before .before .before in
-    let a = turn .before .before .before .before .before .before .args in
+    let a = start (turn .before) .args in
     tree-calls (hashesOf (a .kit) (a .seed .now)) (a .tree) (a .pair) (a .a) _ _ (tree c .counted)
-
-mul-step : tie.Need-mul-step Inv-loop μ-loop
-mul-step c =
-    let s = c .before .before .before .before in
-    omega (arith, small-product (s .args .a) (s .args .kit .n) (s .fits .a .fits) (s .pre .0 .0))
-
-add-step : tie.Need-add-step Inv-loop μ-loop
-add-step c =
-    let s = c .before .before .before .before in
-    omega (arith, small-product (s .args .a) (s .args .kit .n) (s .fits .a .fits) (s .pre .0 .0))
 
 loop-holds : tie.Need-loop-holds Inv-loop μ-loop
 loop-holds c = (omega arith, omega arith, omega arith, omega arith, refl, refl, refl)
@@ -110,52 +103,51 @@ add-leaf c =
       arith,
       room (c .before) .leaf-room,
       digit (c .before),
-      c .before .before .before .before .before .before .before .pre .0 .2,
+      start (c .before .before) .pre .0 .2,
     )
 
 tree-root-requires : tie.Need-tree-root-requires Inv-loop μ-loop
 tree-root-requires c κs =
     let turn = c .before .before in
-    let s = turn .before .before .before .before .before .before in
-    let a = s .args in
-    let step = a .kit .n + a .a * a .kit .n in
-    (s .pre .0 .0, lent-length (turn .before .loop .at) step (a .sig .now) (room turn .part-left))
+    let s = start (turn .before) in
+    let long = lent-length (turn .before .loop .at) (part (turn .before)) (s .args .sig .now) (room turn .part-left) in
+    (s .pre .0 .0, long ∙ turn .before .before .tree-bytes .ensures)
 
 put-requires : tie.Need-put-requires Inv-loop μ-loop
 put-requires c κs =
     let rooted = c .before .before .before .before in
     let turn = rooted .before .before .before in
-    let a = turn .before .before .before .before .before .before .args in
+    let a = start (turn .before) .args in
     omega (arith, room turn .root-room, length-take (a .kit .n - 0) (rooted .tree-root .result .value))
 
 -- The root that a turn came to has room for n bytes.
 part-put-end : tie.Need-part-put-end Inv-loop μ-loop
 part-put-end c =
     let rooted = c .before .before .before in
-    let s = rooted .before .before .before .before .before .before .before .before .before in
+    let s = start (rooted .before .before .before .before) in
     omega (arith, tree rooted .value-long, s .pre .0 .0)
 
 add-calls : tie.Need-add-calls Inv-loop μ-loop
 add-calls c =
     let rooted = c .before .before .before .before .before .before .before in
     let turn = rooted .before .before .before in
-    let s = turn .before .before .before .before .before .before in
+    let s = start (turn .before) in
     omega (arith, made rooted, turn .before .loop .inv .6, s .pre .1 .2)
 
 add-base : tie.Need-add-base Inv-loop μ-loop
 add-base c =
     let turn = c .before .before .before .before .before .before .before .before .before .before in
-    omega (arith, room turn .leaf-room, turn .before .before .before .before .before .before .pre .0 .2)
+    omega (arith, room turn .leaf-room, start (turn .before) .pre .0 .2)
 
 loop-again : tie.Need-loop-again Inv-loop μ-loop
 loop-again c =
     let rooted = c .before .before .before .before .before .before .before in
     let turn = rooted .before .before .before in
     let l = turn .before .loop in
-    let s = turn .before .before .before .before .before .before in
+    let s = start (turn .before) in
     let a = s .args in
     let n = a .kit .n in
-    let step = n + a .a * n in
+    let step = part (turn .before) in
     let put = c .before .before .put in
     let v = rooted .tree-root .result .value in
     let w = hashesOf (a .kit) (a .seed .now) in
@@ -172,15 +164,16 @@ loop-again c =
       put .kept .0 ∙ l .inv .4,
       ap (λ x. x ++ forestWalk w (a .tree) (a .pair) (a .a) (l .j + 1) (drop (l .j + 1) (a .ds .now))
           (drop (l .at + step) (a .sig .now)) .result) (put .ensures .front)
-          ∙ roots-turn w (a .tree) (a .pair) (a .a) (a .ds .now) (l .j) i (l .at) (a .sig .now) (take (l .o) (l .out))
-          (take (n - 0) v) (turn .loop-test .taken) leaf (front ∙ tree rooted .value-is) (l .inv .5),
+          ∙ roots-turn w (a .tree) (a .pair) (a .a) (a .ds .now) (l .j) i (l .at) step (a .sig .now)
+          (take (l .o) (l .out)) (take (n - 0) v) (turn .loop-test .taken) (turn .before .before .tree-bytes .ensures)
+          leaf (front ∙ tree rooted .value-is) (l .inv .5),
       ap₂ _+_ (l .inv .6) (made rooted),
     )
 
 returns : tie.Need-returns Inv-loop μ-loop
 returns c =
     let l = c .before .loop in
-    let s = c .before .before .before .before .before .before in
+    let s = start (c .before) in
     let a = s .args in
     let done : l .j ≡ length (a .ds .now) = omega arith in
     let ends = ap (λ x. x * a .kit .n) done in
@@ -194,8 +187,8 @@ returns c =
 pub roots-in-spec : {M : Type 1} → statement M
 roots-in-spec =
     tie.close
-    (tie.spec Inv-loop μ-loop mul-step add-step loop-holds (λ c. omega (arith, room c .part-left)) (λ c. search needs)
-    (λ c. search needs) add-leaf (λ c. search needs) (λ c. search needs)
+    (tie.spec Inv-loop μ-loop (λ c κs. search needs) loop-holds (λ c. omega (arith, room c .part-left))
+    (λ c. search needs) (λ c. search needs) add-leaf (λ c. search needs) (λ c. search needs)
     (λ c. omega (arith, room (c .before) .part-left)) tree-root-requires (λ c. search needs)
     (λ c. search needs) part-put-end put-requires add-calls add-base (λ c. search needs) (λ c. search needs) loop-again
     (λ c. c .before .loop .inv .4) returns)
