@@ -1,5 +1,5 @@
-//! Published cases, with `stored.rs` all that can be run with an empty context: NIST's key pairs and its seals of another
-//! length than their set's, and keys and seals by OpenSSL. Where they come from: `second/vectors/README.md`.
+//! Published cases, with `stored.rs` all that can be run with an empty context: NIST's key pairs and its seals of
+//! another length than their set's, and keys and seals by OpenSSL. Where they come from: `second/vectors/README.md`.
 
 mod common;
 

@@ -1,2 +1,2 @@
-// Single outcomes of a round and of the exported functions, as theorems about their promises (proofs/). There is no code
-// on this floor.
+// Single outcomes of a round and of the exported functions, as theorems about their promises (proofs/). There is no
+// code on this floor.

@@ -79,13 +79,14 @@ pub rowOf-passes : (test : Row → Bool) → T (every test rows) → (number : �
 unfolding rowOf
 rowOf-passes test t number r e = found test number rows r t e
 
--- A number below the capacity and the turns that are left has no more digits than algorithm 1 gives, since a turn raises
--- the capacity.
+-- A number below the capacity and the turns that are left has no more digits than algorithm 1 gives, since a turn
+-- raises the capacity.
 held : (turns len2 most : ℕ) → most < 16 ^ len2 + turns → most < 16 ^ moreDigits turns len2 (16 ^ len2) most
 unfolding moreDigits
 held zero len2 most h = omega (arith, h)
 held (suc turns) len2 most h =
-    by-test (leb (16 ^ len2) most) refl (rw (pow-suc 16 len2) at (held turns (suc len2) most (raised (one-le-pow len2 16 (zero-lt-suc 15)))))
+    by-test (leb (16 ^ len2) most) refl
+    (rw (pow-suc 16 len2) at (held turns (suc len2) most (raised (one-le-pow len2 16 (zero-lt-suc 15)))))
   where
     raised : 0 < 16 ^ len2 → most < 16 ^ suc len2 + turns
     raised p = rw (pow-suc 16 len2) (omega (arith, h, p))

@@ -60,7 +60,10 @@ table =
     }
     ∷ record { got = ofSet 1 (λ r. lastBits (r .h - r .h') (replicate 7 0xFF) ∷ []); want = 18014398509481983 ∷ [] }
     ∷ record { got = ofSet 1 (λ r. lastBits (r .h') (0xFE ∷ 0x05 ∷ []) ∷ []); want = 5 ∷ [] }
-    ∷ record { got = ofSet 1 (λ r. all (pointed r digest)); want = 18014398509481983 ∷ 5 ∷ sevenTimes (2748 ∷ 3567 ∷ []) }
+    ∷ record {
+      got = ofSet 1 (λ r. all (pointed r digest));
+      want = 18014398509481983 ∷ 5 ∷ sevenTimes (2748 ∷ 3567 ∷ []);
+    }
     ∷ record { got = leafAbove 9 1029 ∷ treeAbove 9 1029 ∷ []; want = 5 ∷ 2 ∷ [] }
     ∷ record { got = address (chainStep 6 5 3 34 14); want = figure 6 5 0 3 0x22 0x0E }
     ∷ record { got = address (chainEnds 6 5 3); want = figure 6 5 1 3 0 0 }

@@ -57,7 +57,8 @@ returns-2 c =
     let a = e .before .before .before .before .args in
     let start = c .before .before .part-start .ensures in
     let long = c .before .part-length .ensures in
-    let z = sym (e .before .before .part-answer-under .ensures) ∙ sym (e .before .number-of .ensures) ∙ e .if1 .left in (
+    let z =
+    sym (e .before .before .part-answer-under .ensures) ∙ sym (e .before .number-of .ensures) ∙ e .if1 .left in (
       ap₂ (λ x y. take (x + y - x) (drop x (a .seal .now))) start long
           ∙ part-read (a .seal .now) (a .number) (ruledRow (a .row)) z,
       ap (byteAt (a .seal .ptr)) (extent-read (a .seal .now) (a .number) (ruledRow (a .row)) z start long .0),
