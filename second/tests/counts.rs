@@ -90,7 +90,7 @@ fn framed(line: &common::Line) -> Vec<u8> {
 /// Every published case of a right length, accepted or rejected.
 #[test]
 fn checks_of_published_seals() {
-    let lines = [7, 5, 4, 2, 3, 2, 7, 5, 4, 2, 3, 2];
+    let lines = [9, 9, 4, 2, 3, 2, 7, 5, 4, 2, 3, 2];
     let mut checked = 0;
     for (set, count) in SETS.iter().zip(lines) {
         for line in read(&format!("checking-{:02}.txt", set.number), count, 7) {
