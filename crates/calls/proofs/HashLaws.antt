@@ -34,14 +34,6 @@ four-joined a b c d n p q r e =
     drawn-is (((a ++ b) ++ c) ++ d) n (fed-more ((a ++ b) ++ c) d (fed-more (a ++ b) c p q) r) e
     ∙ ap (λ (m : Bytes). shake256 m n) (simp append-assoc)
 
--- Two pieces together, two more, then the rest.
-pub five-joined : (a b c d x : Bytes) (n : ℕ) {s t u : Sponge} {y : Bytes} → s ≡ feed rate256 empty (a ++ b)
-    → t ≡ feed rate256 s (c ++ d) → u ≡ feed rate256 t x → y ≡ draw rate256 n (finish rate256 u)
-    → y ≡ shake256 (a ++ (b ++ (c ++ (d ++ x)))) n
-five-joined a b c d x n p q r e =
-    drawn-is (((a ++ b) ++ (c ++ d)) ++ x) n (fed-more ((a ++ b) ++ (c ++ d)) x (fed-more (a ++ b) (c ++ d) p q) r) e
-    ∙ ap (λ (m : Bytes). shake256 m n) (simp append-assoc)
-
 -- A front part that was lent to be filled holds the first bytes drawn.
 pub front-drawn : (n : ℕ) (k : Sponge) {m : ℕ} {ys : Bytes} (rest : Bytes) → ys ≡ draw rate256 m (finish rate256 k)
     → length ys ≡ m → m ≡ n → take n (ys ++ rest) ≡ draw rate256 n (finish rate256 k)

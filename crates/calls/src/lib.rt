@@ -1,4 +1,4 @@
-// The hash calls (FIPS 205, sections 4.1 and 11). Callers go by the rules' family and see no hash.
+// The hash calls that take an address (FIPS 205, sections 4.1 and 11). Callers go by the rules' family and see no hash.
 ghost use mathlib.Core.Path.{_≡_};
 ghost use mathlib.Core.List.{_++_};
 ghost use Prim.Native.Nat.{_≤_};
@@ -100,47 +100,4 @@ pub fn h(kit: Kit, seed: &[u8], adrs: Address, left: &[u8], right: &[u8]) -> [u8
     let mut out = [0u8; 32];
     shake::end(&mut s, q, &mut out[0..n]);
     out
-}
-
-// The randomizer R. The framed message is what precedes the message, in two pieces, and then the message.
-pub fn randomizer_in(
-    kit: Kit,
-    prf: &[u8],
-    mixed: &[u8],
-    head: &[u8],
-    context: &[u8],
-    message: &[u8],
-    out: &mut [u8],
-)
-    requires { ⌜ length (now out) ≡ kit .n ⌝ }
-    ensures { λ _. ⌜ now (out .exit) ≡ familyOf kit .PRFmsg (now (prf .entry)) (now (mixed .entry))
-        (now (head .entry) ++ (now (context .entry) ++ now (message .entry))) ⌝ }
-{
-    let mut s = [0u64; 25];
-    let p = shake::absorb_two(&mut s, 0, prf, mixed);
-    let q = shake::absorb(&mut s, p, head);
-    let t = shake::absorb_two(&mut s, q, context, message);
-    shake::end(&mut s, t, out);
-}
-
-// The digest of the framed message.
-pub fn digest_in(
-    kit: Kit,
-    r: &[u8],
-    seed: &[u8],
-    root: &[u8],
-    head: &[u8],
-    context: &[u8],
-    message: &[u8],
-    out: &mut [u8],
-)
-    requires { ⌜ length (now out) ≡ kit .m ⌝ }
-    ensures { λ _. ⌜ now (out .exit) ≡ familyOf kit .Hmsg (now (r .entry)) (now (seed .entry)) (now (root .entry))
-        (now (head .entry) ++ (now (context .entry) ++ now (message .entry))) ⌝ }
-{
-    let mut s = [0u64; 25];
-    let p = shake::absorb_two(&mut s, 0, r, seed);
-    let q = shake::absorb_two(&mut s, p, root, head);
-    let t = shake::absorb_two(&mut s, q, context, message);
-    shake::end(&mut s, t, out);
 }

@@ -9,10 +9,10 @@ ghost use Rattle.rows.specs.Rows.{ruledRow};
 ghost use Rattle.points.specs.At.{at};
 ghost use Rattle.rows.specs.Ready.{Ready};
 ghost use Rattle.calls.specs.Hashes.{familyFor};
-use calls::digest_in;
 use calls::kit_of;
 use digits::digits;
 use digits::to_int;
+use message_calls::digest_in;
 use rows::Row;
 
 // The tree in layer 0, and the leaf in it.

@@ -11,7 +11,7 @@ ghost use Rattle.rows.specs.Ready.{Ready};
 ghost use Rattle.calls.specs.Hashes.{familyFor};
 ghost use Rattle.points.specs.At.{at};
 use calls::kit_of;
-use calls::randomizer_in;
+use message_calls::randomizer_in;
 use points::Pointed;
 use points::aim;
 use rows::Row;

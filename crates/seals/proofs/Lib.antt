@@ -1,1 +1,1 @@
-pub mod SealLaws
+pub mod KeyPieces

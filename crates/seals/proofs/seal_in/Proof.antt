@@ -6,7 +6,7 @@ use borrow.Author.Needs.{needs}
 use Rattle.lists.proofs.Parts.{zeros-part}
 use Rattle.rows.specs.Rows.{ruledRow}
 use Rattle.calls.specs.Hashes.{familyFor}
-use Rattle.seals.proofs.SealLaws.{seal-whole}
+use Rattle.seals.proofs.KeyPieces.{seal-whole}
 use Rattle.seals.proofs.seal_in.Statement.{statement}
 use Rattle.seals.proofs.seal_in.Tie as tie
 

@@ -1,41 +1,15 @@
--- Seals on plain values: what was written piece by piece is the rules' seal.
+-- A seal with the four pieces of a secret key is the rules' seal with the key.
 -- Assumes nothing.
-use mathlib.Core.Path.{_≡_, ap, ap₂, _∙_}
-use mathlib.Core.List.{_++_}
-use Prim.Native.Nat.{ℕ, _+_, _-_, _*_}
+use mathlib.Core.Path.{_≡_, ap₂, _∙_}
+use Prim.Native.Nat.{_+_, _-_, _*_}
 use native.Mathlib.Omega.{arith}
-use borrow.Rule.Slice.PartMut.{putMid}
 use lib.ListN.{length, take, drop}
-use Rattle.lists.proofs.Filling.{both-written}
 use Rattle.rules.specs.Places.{Bytes}
 use Rattle.rules.specs.Calls.{Family}
 use Rattle.rules.specs.Sets.{Row}
-use Rattle.rules.specs.Digest.{Pointed, pointed}
 use Rattle.rules.specs.Keys.{piece}
-use Rattle.rules.specs.Seal.{mixedIn, randomizerOf, digestOf, written, sealWith, sealOf}
+use Rattle.rules.specs.Seal.{mixedIn, randomizerOf, sealWith, sealOf}
 use Rattle.rows.proofs.SizeLaws.{piece-lent}
-
--- M is a framed message.
-module _ (r : Row) (f : Family (r .n) (r .m)) (sk pk root M : Bytes) where
-  -- Where the message points with a randomizer.
-  abbrev aimed : Bytes → Pointed
-  aimed R = pointed r (digestOf r f R pk root M .result)
-
-  -- What follows the randomizer.
-  rest-is : (R : Bytes) {p : Pointed} {ys : Bytes} → p ≡ aimed R → ys ≡ written r f sk pk p .result
-      → R ++ ys ≡ sealWith r f R sk pk root M .result
-  unfolding sealWith
-  rest-is R e g = ap (λ (x : Bytes). R ++ x) (g ∙ ap (λ q. written r f sk pk q .result) e)
-
-  pub seal-made : (out : Bytes) {R S ys : Bytes} {p : Pointed} → length R ≡ r .n → R ≡ S
-      → p ≡ aimed R → ys ≡ written r f sk pk p .result
-      → putMid (r .n) (length (putMid 0 (r .n - 0) out R) - r .n) (putMid 0 (r .n - 0) out R) ys
-      ≡ sealWith r f S sk pk root M .result
-  seal-made out {R} {S} {ys} lr e g h =
-      both-written (r .n) out R ys lr ∙ rest-is R g h
-      ∙ ap (λ x. sealWith r f x sk pk root M .result) e
-
--- ---- The whole seal, on a secret key as bytes
 
 module _ (r : Row) (f : Family (r .n) (r .m)) (secret random M : Bytes) where
   -- A seal with the pieces of a key.

@@ -14,9 +14,9 @@ use Rattle.rows.specs.Rows.{ruledRow}
 use Rattle.rows.proofs.SizeLaws.{seal-size}
 use Rattle.calls.specs.Hashes.{familyFor}
 use Rattle.points.proofs.PointLaws.{in-key}
-use Rattle.seals.proofs.SealLaws.{seal-made}
-use Rattle.seals.proofs.seal_over.Statement.{statement}
-use Rattle.seals.proofs.seal_over.Tie as tie
+use Rattle.seal_writes.proofs.SealLaws.{seal-made}
+use Rattle.seal_writes.proofs.seal_over.Statement.{statement}
+use Rattle.seal_writes.proofs.seal_over.Tie as tie
 
 abbrev start : tie.After-randomized-aim → tie.Start
 start c = c .before .before .before .before .before .before .before .before .before .before .before .before .before
