@@ -60,13 +60,8 @@ impl House {
         ["", "crates", "use/tests"].iter().any(|folder| self.root.join(folder).join(path).exists())
     }
 
-    fn has_edit(&self, room: Option<&str>, name: &str) -> bool {
-        let is_it = |path: &str| match (room, path.split_once("/must-fail/")) {
-            (Some(room), Some((of, edit))) => of == room && edit == format!("{name}.edit"),
-            (None, Some((_, edit))) => edit == format!("{name}.edit"),
-            _ => false,
-        };
-        self.texts.iter().any(|(path, _)| is_it(path))
+    fn has_edit(&self, room: &str, name: &str) -> bool {
+        self.texts.iter().any(|(path, _)| *path == format!("{room}/must-fail/{name}.edit"))
     }
 
     /// Whether what stands in backticks is there, or is no name but a piece of code.
@@ -81,33 +76,52 @@ impl House {
         let (room, rest) = name.split_once('/').unwrap_or(("rules", name));
         match rest.split_once('.') {
             Some((module, name)) => self.declares(room, module, name),
-            None if name.contains('/') => self.has_edit(Some(room), rest),
-            None => self.words.contains(name) || self.has_edit(None, name),
+            None if name.contains('/') => self.has_edit(room, rest),
+            None => self.words.contains(name),
         }
     }
+}
+
+/// What the guide gives in backticks. An edit may stand without its crate in the list of a crate's edits, which is
+/// "- `room`: `edit`, `edit`; `room`: `edit`."; it is given here as `room/edit`.
+fn names_of(guide: &str, house: &House) -> BTreeSet<String> {
+    let pieces: Vec<&str> = guide.split('`').collect();
+    let mut names = BTreeSet::new();
+    let mut room = "";
+    for place in (1..pieces.len()).step_by(2) {
+        let (before, name, after) = (pieces[place - 1], pieces[place], pieces.get(place + 1).unwrap_or(&""));
+        let name = name.split_whitespace().collect::<Vec<_>>().join(" ");
+        if before.contains("\n- ") || before.contains("\n\n") {
+            room = "";
+        }
+        if after.trim_end() == ":" {
+            room = pieces[place];
+        }
+        let is_edit = house.has_edit(room, &name);
+        names.insert(if is_edit { format!("{room}/{name}") } else { name });
+    }
+    names
 }
 
 #[test]
 fn every_name_of_the_guide_is_there() {
     let house = House::new();
     let guide = fs::read_to_string(house.root.join("docs/EXAMINER.md")).expect("the guide");
-    let text = guide.split_whitespace().collect::<Vec<_>>().join(" ");
-    let names: BTreeSet<&str> = text.split('`').skip(1).step_by(2).collect();
+    let names = names_of(&guide, &house);
     assert!(names.len() > 300, "{} names", names.len());
     let lost: Vec<_> = names.iter().filter(|name| !house.has(name)).collect();
     assert!(lost.is_empty(), "not there: {lost:?}");
 }
 
-/// And every edit is named in the guide.
+/// And every edit is named in the guide, with its crate.
 #[test]
 fn every_edit_is_in_the_guide() {
     let house = House::new();
     let guide = fs::read_to_string(house.root.join("docs/EXAMINER.md")).expect("the guide");
+    let names = names_of(&guide, &house);
     let edits = house.texts.iter().filter_map(|(path, _)| path.split_once("/must-fail/"));
-    let edits: Vec<_> = edits.map(|(room, edit)| (room, edit.trim_end_matches(".edit"))).collect();
+    let edits: Vec<_> = edits.map(|(room, edit)| format!("{room}/{}", edit.trim_end_matches(".edit"))).collect();
     assert!(edits.len() > 50, "{} edits", edits.len());
-    for (room, edit) in edits {
-        let named = [format!("`{edit}`"), format!("`{room}/{edit}`")].iter().any(|name| guide.contains(name.as_str()));
-        assert!(named, "{room}/{edit}");
-    }
+    let lost: Vec<_> = edits.iter().filter(|edit| !names.contains(*edit)).collect();
+    assert!(lost.is_empty(), "not in the guide: {lost:?}");
 }

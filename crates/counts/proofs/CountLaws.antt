@@ -18,7 +18,7 @@ use Rattle.rules.specs.Keys.{piece}
 use Rattle.rules.specs.Seal.{digestOf, part}
 use Rattle.rules.specs.Check.{rootAt, checkedRoot, checkedValue}
 use Rattle.counts.specs.Counts.{is, count, stepsOf, fCalls}
-use Rattle.rules.proofs.DigestLaws.{Placed, placed}
+use Rattle.rules.proofs.DigestLaws.{Inside, points-inside}
 use Rattle.rules.proofs.CheckLaws.{treeOf, leafOf, forestRun, layerRun, layersRun, root-run, next-run}
 
 pub count-append : (k : Kind) (s t : List Call) → count k (s ++ t) ≡ count k s + count k t
@@ -132,7 +132,7 @@ module _ (r : Row) (f : Family (r .n) (r .m)) where
         omega (arith, q, one-count j (part r (suc (suc j)) seal), layers-count above (suc j) top (omega arith))
 
     -- At a place of the key.
-    root-count : Legal r → Placed r at → count k (rootAt r f pk seal at .calls)
+    root-count : Legal r → Inside r at → count k (rootAt r f pk seal at .calls)
         ≡ (r .k + below (r .d)) * is k (of F) + (r .k * r .a + r .h) * is k (of H) + (r .d + 1) * is k (of T)
     unfolding stepsOf
     root-count legal p =
@@ -163,7 +163,7 @@ module _ (r : Row) (f : Family (r .n) (r .m)) where
     unfolding checkedRoot digestOf count fCalls
     check-count k =
         ap (λ (x : ℕ). is k digest + x)
-        (root-count k (piece (r .n) 0 public) (pointed r D) seal legal (placed r legal D))
+        (root-count k (piece (r .n) 0 public) (pointed r D) seal legal (points-inside r legal D))
       where
         D : Bytes
         D = f .Hmsg (part r 0 seal) (piece (r .n) 0 public) (piece (r .n) 1 public) M

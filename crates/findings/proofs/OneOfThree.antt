@@ -28,7 +28,7 @@ use Rattle.findings.proofs.LayerFindings.{Shows, holder-shows, layer-sh
 use Rattle.rules.proofs.LayerLaws.{layerRoot-sized, ownRoot-sized, zero-tree}
 use Rattle.rules.proofs.ForestLaws.{forestRoot-sized, ownForest-sized}
 use Rattle.findings.proofs.ForestFindings.{forest-shows}
-use Rattle.rules.proofs.DigestLaws.{Placed, placed, heights, treeAt-lt}
+use Rattle.rules.proofs.DigestLaws.{Inside, points-inside, heights, treeAt-lt}
 use Rattle.rules.proofs.KeyLaws.{public-root}
 use Rattle.rules.proofs.SealLaws.{perForest, perLayer, seal-parts, part-long, next-part, heldLayer, layersFrom, from-zero, from-suc, leaf-lt, part-layer, written-is}
 use Rattle.rules.proofs.CheckLaws.{treeOf, leafOf, forestRun, layerRun, layersRun, root-run, next-run, checked-sized}
@@ -44,7 +44,7 @@ module _ (r : Row) (legal : Legal r) (f : Family (r .n) (r .m)) (sk pk : Bytes) 
   Own = OwnCall r f sk pk
 
   -- A seal at a place of the key, and the holder's seal at that place.
-  module _ (at : Pointed) (p : Placed r at) (seal held : Bytes) (long : length seal ≡ r .sealBytes)
+  module _ (at : Pointed) (p : Inside r at) (seal held : Bytes) (long : length seal ≡ r .sealBytes)
       (held-part : (j : ℕ) → j < r .d → part r (suc (suc j)) held ≡ heldLayer r legal f sk pk at p j) where
     abbrev tree : ℕ → ℕ
     tree j = treeOf r at j
@@ -207,9 +207,9 @@ module _ (r : Row) (legal : Legal r) (f : Family (r .n) (r .m)) (sk pk : Bytes) 
     abbrev held : Bytes
     held = holders r f sk pk M seal
 
-    in-key : Placed r at
+    in-key : Inside r at
     unfolding pointsTo
-    in-key = placed r legal _
+    in-key = points-inside r legal _
 
     holders-is : held ≡ part r 0 seal ++ written r f sk pk at .result
     unfolding holders pointsTo sealWith

@@ -15,7 +15,7 @@ use Rattle.rules.specs.Places.{Bytes, Place, chainStep, chainEnds, treeNode, fo
 use Rattle.rules.specs.Chains.{chains}
 use Rattle.rules.specs.Sets.{Row, Legal, rows, every, rowOf}
 use Rattle.rules.proofs.DigitLaws.{length-digits, digits-inj}
-use Rattle.rules.proofs.SetLaws.{checksum-fits, first, second, rowOf-passes}
+use Rattle.rules.proofs.SetLaws.{checksum-fits, left-half, right-half, rowOf-passes}
 use Rattle.labels.specs.Labels.{LegalTree, LegalPlace, InWords, inWords}
 
 -- ---- The words of a place
@@ -205,15 +205,15 @@ module _ (r : Row) (legal : Legal r) (room : InWords r) where
 room-of : (r : Row) → T (inWords r) → InWords r
 unfolding inWords
 room-of r t =
-    let t1 = second (leb (r .d) (2 ^ 32)) _ t in
-    let t2 = second (leb (r .h - r .h') 96) _ t1 in
-    let t3 = second (leb (r .h') 32) _ t2 in
+    let t1 = right-half (leb (r .d) (2 ^ 32)) _ t in
+    let t2 = right-half (leb (r .h - r .h') 96) _ t1 in
+    let t3 = right-half (leb (r .h') 32) _ t2 in
     record {
-      layers = leb→le _ _ (first (leb (r .d) (2 ^ 32)) _ t);
-      trees = leb→le _ _ (first (leb (r .h - r .h') 96) _ t1);
-      pairs = leb→le _ _ (first (leb (r .h') 32) _ t2);
-      heights = ltb→lt _ _ (first (ltb (r .a) (2 ^ 32)) _ t3);
-      indices = leb→le _ _ (second (ltb (r .a) (2 ^ 32)) _ t3);
+      layers = leb→le _ _ (left-half (leb (r .d) (2 ^ 32)) _ t);
+      trees = leb→le _ _ (left-half (leb (r .h - r .h') 96) _ t1);
+      pairs = leb→le _ _ (left-half (leb (r .h') 32) _ t2);
+      heights = ltb→lt _ _ (left-half (ltb (r .a) (2 ^ 32)) _ t3);
+      indices = leb→le _ _ (right-half (ltb (r .a) (2 ^ 32)) _ t3);
     }
 
 every-row : T (every inWords rows)

@@ -18,7 +18,7 @@ use Rattle.rules.specs.Calls.{Family}
 use Rattle.rules.specs.Seal.{digestOf}
 use Rattle.rules.specs.Sets.{Row, Legal, bytesFor}
 use Rattle.rules.specs.Digest.{Pointed, lastBits, pointed}
-use Rattle.rules.proofs.DigestLaws.{Placed, placed}
+use Rattle.rules.proofs.DigestLaws.{Inside, points-inside}
 use Rattle.rules.proofs.ReadLaws.{value-fits}
 use Rattle.rows.specs.Ready.{Ready}
 
@@ -93,5 +93,5 @@ unfolding digestOf
 aimed r f R seed root M e g = g ∙ ap (pointed r) e
 
 -- The place lies within the key.
-pub in-key : (r : Row) → Legal r → (D : Bytes) {p : Pointed} → p ≡ pointed r D → Placed r p
-in-key r legal D e = rw e (placed r legal D)
+pub in-key : (r : Row) → Legal r → (D : Bytes) {p : Pointed} → p ≡ pointed r D → Inside r p
+in-key r legal D e = rw e (points-inside r legal D)

@@ -5,25 +5,25 @@ use mathlib.Core.Option.{some}
 use Prim.Native.Nat.{ℕ, _-_}
 use lib.Dec.{T, leb, leb→le}
 use Rattle.rules.specs.Sets.{Row, rows, every, rowOf}
-use Rattle.rules.proofs.SetLaws.{first, second, rowOf-passes, rowOf-legal}
+use Rattle.rules.proofs.SetLaws.{left-half, right-half, rowOf-passes, rowOf-legal}
 use Rattle.rows.specs.Ready.{Fits, fits, Ready}
 
 fitting : (r : Row) → T (fits r) → Fits r
 unfolding fits
 fitting r t =
-    let t1 = second (leb (r .n) 32) _ t in
-    let t2 = second (leb (r .k) 35) _ t1 in
-    let t3 = second (leb (r .a) 16) _ t2 in
-    let t4 = second (leb (r .h') 16) _ t3 in
-    let t5 = second (leb (r .d) 64) _ t4 in
+    let t1 = right-half (leb (r .n) 32) _ t in
+    let t2 = right-half (leb (r .k) 35) _ t1 in
+    let t3 = right-half (leb (r .a) 16) _ t2 in
+    let t4 = right-half (leb (r .h') 16) _ t3 in
+    let t5 = right-half (leb (r .d) 64) _ t4 in
     record {
-      values = leb→le _ _ (first (leb (r .n) 32) _ t);
-      trees = leb→le _ _ (first (leb (r .k) 35) _ t1);
-      digits = leb→le _ _ (first (leb (r .a) 16) _ t2);
-      heights = leb→le _ _ (first (leb (r .h') 16) _ t3);
-      layers = leb→le _ _ (first (leb (r .d) 64) _ t4);
-      tree-bits = leb→le _ _ (first (leb (r .h - r .h') 64) _ t5);
-      digests = leb→le _ _ (second (leb (r .h - r .h') 64) _ t5);
+      values = leb→le _ _ (left-half (leb (r .n) 32) _ t);
+      trees = leb→le _ _ (left-half (leb (r .k) 35) _ t1);
+      digits = leb→le _ _ (left-half (leb (r .a) 16) _ t2);
+      heights = leb→le _ _ (left-half (leb (r .h') 16) _ t3);
+      layers = leb→le _ _ (left-half (leb (r .d) 64) _ t4);
+      tree-bits = leb→le _ _ (left-half (leb (r .h - r .h') 64) _ t5);
+      digests = leb→le _ _ (right-half (leb (r .h - r .h') 64) _ t5);
     }
 
 every-row : T (every fits rows)

@@ -17,7 +17,7 @@ use Rattle.rules.specs.Seal.{mixedIn, randomizerOf, digestOf, written, s
 use Rattle.rules.specs.Check.{layersPart, rootAt, checkedRoot, Accepted}
 use Rattle.rules.proofs.LayerLaws.{layers-accept}
 use Rattle.rules.proofs.ForestLaws.{forest-accepts}
-use Rattle.rules.proofs.DigestLaws.{Placed, placed}
+use Rattle.rules.proofs.DigestLaws.{Inside, points-inside}
 use Rattle.rules.proofs.KeyLaws.{public-seed, public-root, secret-seed, secret-prf, secret-public, secret-root}
 use Rattle.rules.proofs.SealLaws.{written-long, part-randomizer, part-forest, part-layers, seal-parts}
 
@@ -32,7 +32,7 @@ module _ (r : Row) (f : Family (r .n) (r .m)) where
 
   module _ (legal : Legal r) (sk pk : Bytes) where
     -- At a place of the key, what is written for it leads to the key's root.
-    root-accepts : (at : Pointed) → Placed r at → (R : Bytes) → length R ≡ r .n
+    root-accepts : (at : Pointed) → Inside r at → (R : Bytes) → length R ≡ r .n
         → rootAt r f pk (R ++ written r f sk pk at .result) at .result ≡ keyRoot r f sk pk .result
     unfolding rootAt layersPart keyRoot treeAt leafAt heldValue
     root-accepts at p R long =
@@ -55,7 +55,7 @@ module _ (r : Row) (f : Family (r .n) (r .m)) where
         → length (sealWith r f R sk pk root M .result) ≡ r .sealBytes
     sealWith-long R root M long =
         ap length (sealWith-is R root M) ∙ length-append R _
-        ∙ ap₂ _+_ long (written-long r legal f sk pk _ (placed r legal (digestOf r f R pk root M .result)))
+        ∙ ap₂ _+_ long (written-long r legal f sk pk _ (points-inside r legal (digestOf r f R pk root M .result)))
         ∙ omega (arith, seal-parts r legal)
 
     -- Whatever the randomizer, the seal is accepted.
@@ -72,8 +72,8 @@ module _ (r : Row) (f : Family (r .n) (r .m)) where
         at : Pointed
         at = pointed r (digestOf r f R pk root M .result)
 
-        p : Placed r at
-        p = placed r legal (digestOf r f R pk root M .result)
+        p : Inside r at
+        p = points-inside r legal (digestOf r f R pk root M .result)
 
         seal : Bytes
         seal = sealWith r f R sk pk root M .result

@@ -15,7 +15,7 @@ use Rattle.rules.specs.Layers.{treeAt, leafAt}
 use Rattle.rules.proofs.DigitLaws.{length-base2b, base2b-below}
 
 -- A tree of layer 0, a leaf of it, and a digit of a bits for each of the k trees of the forest.
-pub record Placed (r : Row) (at : Pointed) : Type 0 where
+pub record Inside (r : Row) (at : Pointed) : Type 0 where
   pub tree-lt : at .tree < 2 ^ (r .h' * (r .d - 1))
   pub leaf-lt : at .leaf < 2 ^ r .h'
   pub indices-below : Below (2 ^ r .a) (at .indices)
@@ -35,9 +35,9 @@ lastBits-lt : (bits : ℕ) (X : Bytes) → lastBits bits X < 2 ^ bits
 unfolding lastBits
 lastBits-lt bits X = mod-lt _ (pow-pos bits)
 
-pub placed : (r : Row) → Legal r → (D : Bytes) → Placed r (pointed r D)
+pub points-inside : (r : Row) → Legal r → (D : Bytes) → Inside r (pointed r D)
 unfolding pointed
-placed r legal D = record {
+points-inside r legal D = record {
   tree-lt = rw (← heights r legal) (lastBits-lt (r .h - r .h') _);
   leaf-lt = lastBits-lt (r .h') _;
   indices-below = base2b-below _ (r .a) (r .k);

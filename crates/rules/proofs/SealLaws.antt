@@ -19,7 +19,7 @@ use Rattle.rules.specs.Digest.{Pointed, pointed}
 use Rattle.rules.specs.Seal.{plain, frame, digestOf, written, sealWith, partStart, partLength, part, heldValue}
 use Rattle.rules.proofs.LayerLaws.{layerSeal-long, layersSeal-suc, layersSeal-long}
 use Rattle.rules.proofs.ForestLaws.{forestSeal-long, forest-accepts}
-use Rattle.rules.proofs.DigestLaws.{Placed, placed, leafAt-lt}
+use Rattle.rules.proofs.DigestLaws.{Inside, points-inside, leafAt-lt}
 
 -- Two bytes, the context and the message, joined, are the message in its frame.
 pub framed : (context message : Bytes)
@@ -73,7 +73,7 @@ layer-start r j seal =
 
 -- ---- What the rules write
 
-module _ (r : Row) (legal : Legal r) (f : Family (r .n) (r .m)) (sk pk : Bytes) (at : Pointed) (p : Placed r at) where
+module _ (r : Row) (legal : Legal r) (f : Family (r .n) (r .m)) (sk pk : Bytes) (at : Pointed) (p : Inside r at) where
   abbrev forest : Bytes
   forest = forestSeal (under f pk) (at .tree) (at .leaf) (r .a) sk 0 (at .indices) .result
 

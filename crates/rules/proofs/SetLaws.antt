@@ -13,30 +13,30 @@ use Rattle.rules.specs.Chains.{chains, moreDigits, checksumDigits}
 use Rattle.rules.specs.Sets.{Row, Legal, bytesFor, rows, good, every, find, rowOf}
 
 -- The halves of a test that has two.
-pub first : (a b : Bool) → T (a && b) → T a
-first true b t = tt
-first false b t = t
+pub left-half : (a b : Bool) → T (a && b) → T a
+left-half true b t = tt
+left-half false b t = t
 
-pub second : (a b : Bool) → T (a && b) → T b
-second true b t = t
-second false b t = absurd t
+pub right-half : (a b : Bool) → T (a && b) → T b
+right-half true b t = t
+right-half false b t = absurd t
 
 pub legal : (r : Row) → T (good r) → Legal r
 unfolding good
 legal r t =
-    let t1 = second (eqb (r .h) (r .d * r .h')) _ t in
-    let t2 = second (ltb 0 (r .d)) _ t1 in
-    let t3 = second (eqb (r .m) (bytesFor (r .k * r .a) + (bytesFor (r .h - r .h') + bytesFor (r .h')))) _ t2 in
-    let t4 = second (eqb (r .publicBytes) (2 * r .n)) _ t3 in
-    let t5 = second (eqb (r .secretBytes) (4 * r .n)) _ t4 in
+    let t1 = right-half (eqb (r .h) (r .d * r .h')) _ t in
+    let t2 = right-half (ltb 0 (r .d)) _ t1 in
+    let t3 = right-half (eqb (r .m) (bytesFor (r .k * r .a) + (bytesFor (r .h - r .h') + bytesFor (r .h')))) _ t2 in
+    let t4 = right-half (eqb (r .publicBytes) (2 * r .n)) _ t3 in
+    let t5 = right-half (eqb (r .secretBytes) (4 * r .n)) _ t4 in
     record {
-      layers = eqb→eq _ _ (first (eqb (r .h) (r .d * r .h')) _ t);
-      some-layer = ltb→lt _ _ (first (ltb 0 (r .d)) _ t1);
-      digest-long = eqb→eq _ _ (first (eqb (r .m) _) _ t2);
-      public-long = eqb→eq _ _ (first (eqb (r .publicBytes) (2 * r .n)) _ t3);
-      secret-long = eqb→eq _ _ (first (eqb (r .secretBytes) (4 * r .n)) _ t4);
-      seal-long = eqb→eq _ _ (first (eqb (r .sealBytes) _) _ t5);
-      checksum-digits = eqb→eq _ _ (second (eqb (r .sealBytes) _) _ t5);
+      layers = eqb→eq _ _ (left-half (eqb (r .h) (r .d * r .h')) _ t);
+      some-layer = ltb→lt _ _ (left-half (ltb 0 (r .d)) _ t1);
+      digest-long = eqb→eq _ _ (left-half (eqb (r .m) _) _ t2);
+      public-long = eqb→eq _ _ (left-half (eqb (r .publicBytes) (2 * r .n)) _ t3);
+      secret-long = eqb→eq _ _ (left-half (eqb (r .secretBytes) (4 * r .n)) _ t4);
+      seal-long = eqb→eq _ _ (left-half (eqb (r .sealBytes) _) _ t5);
+      checksum-digits = eqb→eq _ _ (right-half (eqb (r .sealBytes) _) _ t5);
     }
 
 pub every-row : T (every good rows)
@@ -49,14 +49,14 @@ found : (test : Row → Bool) (number : ℕ) (rs : List Row) (r : Row) → T (ev
 unfolding find every
 found test number [] r t e = let z : _≡_ {A = ℕ} 0 1 = cc in absurd (omega arith)
 found test number (q ∷ rs) r t e =
-    here (eqb number (q .number)) refl e (λ e′. found test number rs r (second (test q) (every test rs) t) e′)
+    here (eqb number (q .number)) refl e (λ e′. found test number rs r (right-half (test q) (every test rs) t) e′)
   where
     here : (b : Bool) → eqb number (q .number) ≡ b → cond b (some q) (find number rs) ≡ some r
         → (find number rs ≡ some r → (r .number ≡ number) × T (test r)) → (r .number ≡ number) × T (test r)
     here true h e′ later =
         let same : q ≡ r = cc in (
           ap (λ (x : Row). x .number) (sym same) ∙ sym (eqb→eq number (q .number) (subst T (sym h) tt)),
-          subst (λ (x : Row). T (test x)) same (first (test q) (every test rs) t),
+          subst (λ (x : Row). T (test x)) same (left-half (test q) (every test rs) t),
         )
     here false h e′ later = later e′
 

@@ -7,9 +7,9 @@ use Rattle.rules.specs.Places.{words, address}
 use Rattle.rules.specs.Chains.{steps, ownDigits, checksum, chainDigits}
 use Rattle.rules.specs.Digest.{lastBits, pointed}
 use Rattle.rules.specs.Sets.{rows, find, rowOf}
-use Rattle.rules.specs.Starred.{table, Holds}
+use Rattle.rules.specs.Starred.{table, Agree}
 
-pub starred : Holds table
+pub starred : Agree table
 unfolding table value digits base2b words address steps ownDigits checksum chainDigits rows find rowOf lastBits pointed
 starred = (
   refl,

@@ -75,6 +75,6 @@ table =
     ∷ []
 
 -- In every case the two lists are equal.
-abbrev pub Holds : List Case → Type 0
-Holds [] = Unit {0}
-Holds (c ∷ cs) = (c .got ≡ c .want) × Holds cs
+abbrev pub Agree : List Case → Type 0
+Agree [] = Unit {0}
+Agree (c ∷ cs) = (c .got ≡ c .want) × Agree cs
