@@ -14,14 +14,14 @@ const RATE: usize = 136;
 pub fn absorb(s: &mut [u64; 25], at: usize, m: &[u8]) -> usize
     ensures { λ r. ⌜ sponge (now (s .exit)) r ≡ feed rate256 (sponge (now (s .entry)) at) (now (m .entry)) ⌝ }
 {
-    sponge::absorb(s, RATE, at, m)
+    absorbing::absorb(s, RATE, at, m)
 }
 
 // Ends the message.
 pub fn finish(s: &mut [u64; 25], at: usize) -> usize
     ensures { λ r. ⌜ sponge (now (s .exit)) r ≡ finished rate256 (sponge (now (s .entry)) at) ⌝ }
 {
-    sponge::finish(s, RATE, at)
+    absorbing::finish(s, RATE, at)
 }
 
 // Squeezes the next bytes into the whole of out.
@@ -30,7 +30,7 @@ pub fn squeeze(s: &mut [u64; 25], at: usize, out: &mut [u8]) -> usize
         ≡ drawn rate256 (length (now (out .entry))) (sponge (now (s .entry)) at) ⌝ }
     ensures { λ r. ⌜ now (out .exit) ≡ draw rate256 (length (now (out .entry))) (sponge (now (s .entry)) at) ⌝ }
 {
-    sponge::squeeze(s, RATE, at, out)
+    squeezing::squeeze(s, RATE, at, out)
 }
 
 // Two pieces, one after the other.

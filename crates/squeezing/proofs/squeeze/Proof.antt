@@ -6,10 +6,10 @@ use native.Mathlib.Omega.{arith}
 use lib.ListN.{length, take}
 use lib.Seq.{take-all}
 use borrow.Author.Needs.{needs}
 use Rattle.sponge.specs.Stream.{sponge, draw, drawn}
 use Rattle.sponge.proofs.Stream.{drawn-next, draw-next}
-use Rattle.sponge.proofs.squeeze.Statement.{statement}
-use Rattle.sponge.proofs.squeeze.Tie as tie
+use Rattle.squeezing.proofs.squeeze.Statement.{statement}
+use Rattle.squeezing.proofs.squeeze.Tie as tie
 
 abbrev Inv-loop : tie.InvT-loop
 Inv-loop s₀ rate at out₀ p₀ i₀ s out p i =

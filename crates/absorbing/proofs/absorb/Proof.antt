@@ -6,10 +6,10 @@ use native.Mathlib.Omega.{arith}
 use lib.ListN.{length, take}
 use lib.Seq.{take-all}
 use borrow.Author.Needs.{needs}
 use Rattle.sponge.specs.Stream.{sponge, feed}
 use Rattle.sponge.proofs.Stream.{feed-next}
-use Rattle.sponge.proofs.absorb.Statement.{statement}
-use Rattle.sponge.proofs.absorb.Tie as tie
+use Rattle.absorbing.proofs.absorb.Statement.{statement}
+use Rattle.absorbing.proofs.absorb.Tie as tie
 
 abbrev Inv-loop : tie.InvT-loop
 Inv-loop s₀ rate at m p₀ i₀ s p i = (i ≤ length m) × (sponge s p ≡ feed rate (sponge s₀ at) (take i m))

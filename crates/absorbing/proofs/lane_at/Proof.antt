@@ -7,10 +7,10 @@ use native.Mathlib.Omega.{arith}
 use lib.ListN.{take, drop}
 use borrow.Author.Needs.{needs}
 use Rattle.lists.specs.Below.{Below}
 use Rattle.sponge.specs.Sponge.{number}
 use Rattle.sponge.proofs.Lanes.{number-room, number-turn}
-use Rattle.sponge.proofs.lane_at.Statement.{statement}
-use Rattle.sponge.proofs.lane_at.Tie as tie
+use Rattle.absorbing.proofs.lane_at.Statement.{statement}
+use Rattle.absorbing.proofs.lane_at.Tie as tie
 
 abbrev Inv-loop : tie.InvT-loop
 Inv-loop m i w₀ k₀ w k = (k ≤ 8) × (w ≡ number 8 (take (8 - k) (drop (i + k) m)))

@@ -1,9 +1,9 @@
 -- `finish` ends the message: the suffix and the padding's two ones are two bytes added to the last block.
 -- Assumes nothing.
 use borrow.Author.Needs.{needs}
 use Rattle.sponge.specs.Stream.{close, finish}
-use Rattle.sponge.proofs.finish.Statement.{statement}
-use Rattle.sponge.proofs.finish.Tie as tie
+use Rattle.absorbing.proofs.finish.Statement.{statement}
+use Rattle.absorbing.proofs.finish.Tie as tie
 
 returns : tie.Need-returns
 unfolding finish close

@@ -3,10 +3,10 @@
 use mathlib.Core.Path.{sym}
 use native.Mathlib.Omega.{arith}
 use borrow.Author.Needs.{needs}
 use Rattle.sponge.specs.Stream.{sponge}
 use Rattle.sponge.proofs.Stream.{turn-yes, turn-no}
-use Rattle.sponge.proofs.turn.Statement.{statement}
-use Rattle.sponge.proofs.turn.Tie as tie
+use Rattle.absorbing.proofs.turn.Statement.{statement}
+use Rattle.absorbing.proofs.turn.Tie as tie
 
 returns : tie.Need-returns
 returns c =

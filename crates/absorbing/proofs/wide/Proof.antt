@@ -3,8 +3,8 @@
 use mathlib.Core.Path.{refl}
 use native.Mathlib.Omega.{arith}
 use borrow.Author.Needs.{needs}
-use Rattle.sponge.proofs.wide.Statement.{statement}
-use Rattle.sponge.proofs.wide.Tie as tie
+use Rattle.absorbing.proofs.wide.Statement.{statement}
+use Rattle.absorbing.proofs.wide.Tie as tie
 
 cast-result : tie.Need-cast-result
 cast-result c = omega (arith, c .shared-slice-known .given (c .before .args .i))

@@ -8,10 +8,10 @@ use lib.Seq.{drop-cons}
 use borrow.Author.Needs.{needs}
 use Rattle.lists.specs.Below.{Below}
 use Rattle.lists.proofs.Below.{below-take, below-drop}
 use Rattle.sponge.specs.Stream.{feed}
 use Rattle.sponge.proofs.Lanes.{byte-in, lane-in}
-use Rattle.sponge.proofs.absorb_next.Statement.{statement}
-use Rattle.sponge.proofs.absorb_next.Tie as tie
+use Rattle.absorbing.proofs.absorb_next.Statement.{statement}
+use Rattle.absorbing.proofs.absorb_next.Tie as tie
 
 returns : tie.Need-returns
 returns c =

@@ -3,10 +3,10 @@
 use Prim.Native.Nat.{_*_, _%_}
 use native.Mathlib.Omega.{arith}
 use borrow.Author.Needs.{needs}
 use Rattle.sponge.specs.Stream.{mixed}
 use Rattle.sponge.proofs.Lanes.{shifted}
-use Rattle.sponge.proofs.mix.Statement.{statement}
-use Rattle.sponge.proofs.mix.Tie as tie
+use Rattle.absorbing.proofs.mix.Statement.{statement}
+use Rattle.absorbing.proofs.mix.Tie as tie
 
 returns : tie.Need-returns
 unfolding mixed

@@ -8,10 +8,10 @@ use native.Mathlib.Numerals.{add-one}
 use lib.ListN.{set, take}
 use lib.Seq.{take-suc-set}
 use borrow.Author.Needs.{needs}
 use Rattle.sponge.specs.Stream.{byteOf}
 use Rattle.sponge.proofs.Lanes.{lane-out, byte-out}
-use Rattle.sponge.proofs.squeeze_next.Statement.{statement}
-use Rattle.sponge.proofs.squeeze_next.Tie as tie
+use Rattle.squeezing.proofs.squeeze_next.Statement.{statement}
+use Rattle.squeezing.proofs.squeeze_next.Tie as tie
 
 returns : tie.Need-returns
 returns c =

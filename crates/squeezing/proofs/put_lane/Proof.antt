@@ -7,10 +7,10 @@ use native.Mathlib.Omega.{arith}
 use native.Mathlib.Nat.{add-zero}
 use lib.ListN.{length, set, take, length-set}
 use borrow.Author.Needs.{needs}
 use Rattle.sponge.specs.Sponge.{digits}
 use Rattle.sponge.proofs.Lanes.{store-next}
-use Rattle.sponge.proofs.put_lane.Statement.{statement}
-use Rattle.sponge.proofs.put_lane.Tie as tie
+use Rattle.squeezing.proofs.put_lane.Statement.{statement}
+use Rattle.squeezing.proofs.put_lane.Tie as tie
 
 abbrev Inv-loop : tie.InvT-loop
 Inv-loop w out₀ i rest₀ k₀ out rest k =
