@@ -1,10 +1,11 @@
 // The answers, and the tests that come before any work.
+#![tactic(auto)]
 ghost use Rattle.std.specs.Prelude.{◌≡◌, cond, ◌||◌};
 ghost use Rattle.answers.specs.Answers.{number};
 ghost use Rattle.answers.specs.Tests.{same};
 
 // The paper's answers 0 to 6.
-#[derive(Drop)]
+#[derive(Clone, Copy)]
 pub enum Answer {
     Done,
     UnknownSet,

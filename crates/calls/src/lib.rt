@@ -1,4 +1,5 @@
 // The hash calls that take an address (FIPS 205, sections 4.1 and 11). Callers go by the rules' family and see no hash.
+#![tactic(auto)]
 ghost use Rattle.std.specs.Prelude.{◌≡◌, ◌++◌, ◌≤◌, length, take};
 ghost use Rattle.shake.specs.Shake.{shake256};
 ghost use Rattle.rules.specs.Calls.{Function};
@@ -9,7 +10,7 @@ use addresses::{Address, address_bytes};
 use rows::Row;
 
 // The hash functions of a set, for values of n bytes and digests of m bytes.
-#[derive(Drop)]
+#[derive(Clone, Copy)]
 pub struct Kit {
     pub n: usize,
     pub m: usize,

@@ -1,4 +1,5 @@
 // Chains, and what a seal shows of them (FIPS 205, algorithms 5 and 7).
+#![tactic(auto)]
 ghost use Rattle.std.specs.Prelude.{◌≡◌, ◌+◌, ◌*◌, ◌<◌, ◌^◌, length};
 ghost use Rattle.lists.specs.Below.{Below};
 ghost use Rattle.rules.specs.Places.{chain_step};
@@ -11,7 +12,7 @@ use addresses::address_at;
 use calls::{Kit, f_in, secret_in};
 
 // Which leaf: its layer, its tree there and its number in the tree, the key pair.
-#[derive(Drop)]
+#[derive(Clone, Copy)]
 pub struct Spot {
     pub layer: u32,
     pub tree: u64,

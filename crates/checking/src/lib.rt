@@ -1,4 +1,5 @@
 // Checking.
+#![tactic(auto)]
 ghost use Rattle.std.specs.Prelude.{◌≡◌, cond, ◌≤◌, take};
 ghost use Rattle.std.proofs.Math.Option.{some};
 ghost use Rattle.rules.specs.Sets.{row_of};
@@ -14,7 +15,7 @@ use checks::checked_root;
 use rows::{Found, Row, find_row};
 
 // An answer, and the F calls that were made for it.
-#[derive(Drop)]
+#[derive(Clone, Copy)]
 pub struct Verdict {
     pub answer: Answer,
     pub calls: u32,

@@ -7,7 +7,7 @@ ghost use Rattle.climbs.specs.Groves.{place_of};
 use addresses::{Address, address_at};
 
 // Tree number t of layer l, or the forest at tree t and key pair p.
-#[derive(Drop)]
+#[derive(Clone, Copy)]
 pub enum Grove {
     Layer(u32, u64),
     Forest(u64, u32),

@@ -1,4 +1,5 @@
 // The climb from a leaf to a root along its siblings (FIPS 205, algorithms 11 and 17), and what a walk gives.
+#![tactic(auto)]
 pub mod groves;
 
 ghost use Rattle.std.specs.Prelude.{◌≡◌, ◌+◌, ◌*◌, ◌/◌, ◌%◌, ◌^◌, ◌≤◌, ◌<◌, length, take};
@@ -12,7 +13,7 @@ use crate::groves::{Grove, node_address};
 use calls::{Kit, h};
 
 // A value that a seal leads to, and the F calls on the way.
-#[derive(Drop)]
+#[derive(Clone, Copy)]
 pub struct Walked {
     pub value: [u8; 32],
     pub calls: u32,

@@ -1,4 +1,5 @@
 // What programs in other languages call: the desk's operations, with answers as the paper's numbers.
+#![tactic(auto)]
 ghost use Rattle.rules.specs.Sets.{row_of};
 ghost use Rattle.std.specs.Prelude.{◌≡◌};
 ghost use Rattle.making.specs.Keys.{KeysMade};

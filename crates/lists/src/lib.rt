@@ -1,1 +1,2 @@
 // Laws on lists and numbers that several crates cite (proofs/). There is no code on this floor.
+#![tactic(auto)]

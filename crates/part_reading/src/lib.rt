@@ -1,4 +1,5 @@
 // Part reading: a part is handed out as it lies in the seal.
+#![tactic(auto)]
 ghost use Rattle.std.specs.Prelude.{◌≡◌, ◌+◌, ◌≤◌, length};
 ghost use Rattle.std.proofs.Math.Option.{some};
 ghost use Rattle.rules.specs.Sets.{row_of};
@@ -92,7 +93,7 @@ pub fn part(set: u32, seal: &[u8], number: u32) -> &[u8]
 }
 
 // Where a part lies in its seal.
-#[derive(Drop)]
+#[derive(Clone, Copy)]
 pub struct Extent {
     pub start: usize,
     pub length: usize,

@@ -1,4 +1,5 @@
 // Where a message digest points (FIPS 205, algorithms 19, lines 6 to 10, and 20, lines 9 to 13).
+#![tactic(auto)]
 ghost use Rattle.std.specs.Prelude.{◌≡◌, ◌++◌, ◌≤◌, length};
 ghost use Rattle.rules.specs.Digest.{last_bits, pointed};
 ghost use Rattle.rules.specs.Seal.{digest_of};
@@ -13,7 +14,7 @@ use message_calls::digest_in;
 use rows::Row;
 
 // The tree in layer 0, and the leaf in it.
-#[derive(Drop)]
+#[derive(Clone, Copy)]
 pub struct Pointed {
     pub tree: u64,
     pub leaf: u32,

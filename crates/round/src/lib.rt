@@ -1,4 +1,5 @@
 // A round: a key pair is made, a message sealed with it, and the seal checked under it.
+#![tactic(auto)]
 ghost use Rattle.rules.specs.Sets.{row_of};
 ghost use Rattle.round.specs.Round.{Rounded};
 
@@ -8,7 +9,7 @@ use making::make_keys;
 use sealing::seal;
 
 // The three answers, and the F calls of the check.
-#[derive(Drop)]
+#[derive(Clone, Copy)]
 pub struct Round {
     pub made: Answer,
     pub sealed: Answer,

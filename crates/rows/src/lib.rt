@@ -1,11 +1,12 @@
 // The sets (FIPS 205, table 2). A set's numbers stand in this table and nowhere else in the code.
+#![tactic(auto)]
 pub mod sizes;
 
 ghost use Rattle.std.specs.Prelude.{◌≡◌};
 ghost use Rattle.rules.specs.Sets.{row_of};
 ghost use Rattle.rows.specs.Rows.{ruled};
 
-#[derive(Drop)]
+#[derive(Clone, Copy)]
 pub struct Row {
     pub number: u32,
     pub n: usize,
@@ -49,7 +50,7 @@ const ROWS: [Row; 2] = [
     },
 ];
 
-#[derive(Drop)]
+#[derive(Clone, Copy)]
 pub enum Found {
     Is(Row),
     Unknown,

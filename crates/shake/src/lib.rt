@@ -1,6 +1,7 @@
 // SHAKE256 (FIPS 202) by pieces, over a state that the caller lends. Begin with 25 zero lanes and the place 0; absorb
 // pieces, finish once, squeeze pieces. Each function returns the place that the next one takes. Callers go by these
 // contracts and the laws of proofs/Laws.antt.
+#![tactic(auto)]
 ghost use Rattle.std.specs.Prelude.{◌≡◌, ◌++◌, length};
 ghost use Rattle.shake.specs.Shake.{rate256, shake256};
 ghost use Rattle.sponge.specs.Stream.{sponge, feed, finish as finished, draw, drawn};

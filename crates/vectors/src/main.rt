@@ -1,5 +1,6 @@
 // The desk run as a program: keys of both sets, then, under set 2, which seals faster, seals, checks and both readings.
 // Each operation writes a line or two; second/tests/run.rs works them out and holds `stdout` to them.
+#![tactic(auto)]
 use answers::{Answer, number_of};
 use libc::STDOUT_FILENO;
 

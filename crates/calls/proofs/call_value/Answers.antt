@@ -1,0 +1,14 @@
+-- `call_value` is `call` on the front of 32 bytes.
+-- Assumes nothing.
+use mathlib.Core.List.{◌++◌}
+use borrow.Author.Rules.{rules}
+use Rattle.shake.specs.Shake.{shake256}
+use Rattle.lists.proofs.Parts.{zeros_part, front_part}
+use Rattle.addresses.specs.Addresses.{bytes_of}
+use Rattle.calls.proofs.call_value.Goals as goal
+
+pub returns : goal.returns
+returns c =
+    let a = c.args in
+    front_part (shake256 (a.seed.now ++ (bytes_of a.adrs ++ a.input.now))) a.n _
+    c.call.ensures c.call.auto.out (zeros_part a.n 32 c.requires)

@@ -1,0 +1,16 @@
+-- `secret_in` is a secret value, by `call`.
+-- Assumes nothing.
+use mathlib.Core.Path.{◌≡◌, ap, ◌∙◌}
+use mathlib.Core.List.{◌++◌}
+use borrow.Author.Rules.{rules}
+use Rattle.shake.specs.Shake.{shake256}
+use Rattle.addresses.specs.Addresses.{bytes_of}
+use Rattle.calls.specs.Hashes.{family}
+use Rattle.calls.proofs.secret_in.Goals as goal
+
+pub returns : goal.returns
+unfolding family
+returns c =
+    let a = c.args in
+    c.call.ensures
+    ∙ ap (λ n. shake256 (a.seed.now ++ (bytes_of a.adrs ++ a.sk.now)) n) c.requires

@@ -1,0 +1,26 @@
+-- `shown_in` writes the chains' values one after the other: what is written and what is left to show are the whole.
+-- Assumes nothing.
+use mathlib.Core.Path.{◌≡◌, refl, sym, ap, ◌∙◌}
+use mathlib.Core.List.{◌++◌}
+use Prim.Native.Nat.{◌+◌, ◌-◌, ◌*◌, ◌≤◌}
+use native.Mathlib.Numerals.{unary_clauses}
+use native.Mathlib.Nat.{zero-mul}
+use native.Mathlib.Omega.{arith}
+use lib.ListN.{length, take, drop, get_or}
+use lib.Seq.{take_all}
+use borrow.Author.Rules.{rules}
+use Rattle.lists.proofs.Parts.{piece_room}
+use Rattle.lists.proofs.Filling.{part_written, part_length_lem, lent_length}
+use Rattle.rules.specs.Chains.{shown}
+use Rattle.calls.specs.Hashes.{hashes_of}
+use Rattle.chains.proofs.Loops.{shown_turn, shown_end}
+use Rattle.chains.proofs.shown_in.Given as goal
+
+abbrev pub invariant-loop-i : goal.invariant-loop-i
+invariant-loop-i l =
+    (l.i ≤ length l.ds) × (l.at ≡ l.i * l.n) × (length l.out ≡ length l.initial.out)
+    × (take l.at l.out ++ (shown (hashes_of l.kit l.seed) l.spot.layer l.spot.tree l.spot.pair l.sk l.i (drop l.i l.ds)).result
+    ≡ (shown (hashes_of l.kit l.seed) l.spot.layer l.spot.tree l.spot.pair l.sk 0 l.ds).result)
+
+abbrev pub decreases-loop-i : goal.decreases-loop-i
+decreases-loop-i l = length l.ds - l.i

@@ -1,0 +1,32 @@
+-- `checked_root_over` reads where the message points and walks from there.
+-- Assumes nothing.
+use mathlib.Core.Path.{◌∙◌}
+use mathlib.Core.List.{◌++◌}
+use borrow.Author.Rules.{rules}
+use Rattle.rows.specs.Rows.{ruled_row}
+use Rattle.calls.specs.Hashes.{family_for}
+use Rattle.points.proofs.PointLaws.{in_key}
+use Rattle.checks.proofs.CheckLaws.{checked_made, checked_calls}
+use Rattle.checks.proofs.checked_root_over.Goals as goal
+
+pub root_at-requires : goal.root_at-requires
+root_at-requires c =
+    let q = in_key (ruled_row c.args.row) c.requires.0.legal _ c.aim-pointed.ensures in
+     record {
+      ready = (c.requires.0, c.requires.2);
+      indices_len = (q.indices_long, q.indices_below);
+    }
+
+pub returns : goal.returns
+returns c =
+    let a = c.args in
+    let r = ruled_row a.row in
+    let M = a.head.now ++ (a.context.now ++ a.message.now) in
+    let two = c.requires.1 ∙ c.requires.0.legal.public_long in
+    let e = c.aim-pointed.ensures in
+    let g = c.root_at.ensures in
+    record {
+      value_is = checked_made r (family_for r) a.public.now M a.seal.now two e g.value_is;
+      counted = checked_calls r (family_for r) a.public.now M a.seal.now two e g.counted;
+      value_long = g.value_long;
+    }

@@ -1,0 +1,15 @@
+-- `node_address` gives the address of the node's place: each kind of grove has its type of address.
+-- Assumes nothing.
+use borrow.Author.Rules.{rules}
+use Rattle.climbs.proofs.GroveLaws.{node_in}
+use Rattle.climbs.proofs.groves.node_address.Goals as goal
+
+pub returns-in-Layer : goal.returns-in-Layer
+returns-in-Layer c =
+    let a = c.args in
+    node_in a.z a.i c.grove-1.given.1 c.address_at.ensures
+
+pub returns-in-Forest : goal.returns-in-Forest
+returns-in-Forest c =
+    let a = c.args in
+    node_in a.z a.i c.grove-in-Forest-1.given.1 c.address_at-in-Forest.ensures

@@ -1,0 +1,26 @@
+-- `up` is H of a node and its sibling at their parent's place: each parity of the index has its order.
+-- Assumes nothing.
+use mathlib.Core.Path.{sym}
+use Prim.Native.Nat.{◌%◌}
+use borrow.Author.Rules.{rules}
+use lib.ListN.{take}
+use lib.Seq.{length-take-le}
+use Rattle.rules.specs.Calls.{H}
+use Rattle.calls.specs.Hashes.{hashes_of}
+use Rattle.climbs.proofs.ClimbLaws.{joined_even, joined_odd, called}
+use Rattle.climbs.proofs.up.Goals as goal
+
+pub slice_bounds-own-end : goal.slice_bounds-own-end
+slice_bounds-own-end c = sym (length-take-le _ c.args.t6 (search rules))
+
+pub returns-then-i-eq0 : goal.returns-then-i-eq0
+returns-then-i-eq0 c =
+    let a = c.args in
+    called ((hashes_of a.kit a.seed.now).hash H) c.node_address-adrs.ensures
+    (joined_even (a.i % 2) (take a.kit.n a.t6) a.sibling.now c.if-i-eq0.true) c.h.ensures
+
+pub returns-else-i-eq0 : goal.returns-else-i-eq0
+returns-else-i-eq0 c =
+    let a = c.args in
+    called ((hashes_of a.kit a.seed.now).hash H) c.node_address-adrs.ensures
+    (joined_odd (a.i % 2) (take a.kit.n a.t6) a.sibling.now c.if-i-eq0.false) c.h-else-i-eq0.ensures

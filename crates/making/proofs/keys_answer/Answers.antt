@@ -1,0 +1,15 @@
+-- `keys_answer` goes line by line.
+-- Assumes nothing.
+use mathlib.Core.Path.{refl}
+use Rattle.answers.proofs.LineLaws.{no_line, one_line, passed_line}
+use borrow.Author.Rules.{rules}
+use Rattle.making.proofs.keys_answer.Goals as goal
+
+pub returns : goal.returns
+returns c =
+    passed_line _ _ _ refl
+    (one_line _ _ _ c.unless.ensures refl
+    (one_line _ _ _ c.unless-second.ensures refl
+    (one_line _ _ _ c.unless-third.ensures refl
+    (one_line _ _ _ c.unless-four.ensures refl
+    (one_line _ _ _ c.unless-last.ensures refl no_line)))))

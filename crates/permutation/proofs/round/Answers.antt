@@ -1,0 +1,10 @@
+-- `round` is the five steps, each by its function's contract.
+-- Assumes nothing.
+use borrow.Author.Rules.{rules}
+use Rattle.keccak.specs.Keccak.{round, ι}
+use Rattle.permutation.proofs.round.Goals as goal
+
+pub returns : goal.returns
+unfolding round ι
+returns c =
+    rw (c.chi-e.ensures, c.pi-d.ensures, c.rho-b.ensures, c.theta-a.ensures)

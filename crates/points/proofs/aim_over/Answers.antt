@@ -1,0 +1,20 @@
+-- `aim_over` reads where the digest of the framed message points.
+-- Assumes nothing.
+use mathlib.Core.List.{◌++◌}
+use borrow.Author.Rules.{rules}
+use Rattle.rows.specs.Rows.{ruled_row}
+use Rattle.calls.specs.Hashes.{family_for}
+use Rattle.points.proofs.PointLaws.{aimed}
+use Rattle.points.proofs.aim_over.Goals as goal
+
+pub digest_in-requires : goal.digest_in-requires
+digest_in-requires c =
+    rw c.kit_of-kit.ensures c.requires.1
+
+pub returns : goal.returns
+returns c =
+    let a = c.args in
+    let r = ruled_row a.row in
+    aimed r (family_for r) a.r.now a.seed.now a.root.now
+    (a.head.now ++ (a.context.now ++ a.message.now)) (rw c.kit_of-kit.ensures at c.digest_in.ensures)
+    c.point.ensures

@@ -1,0 +1,21 @@
+-- `randomizer_of_in` hashes the mixed-in bytes and the framed message.
+-- Assumes nothing.
+use mathlib.Core.List.{◌++◌}
+use borrow.Author.Rules.{rules}
+use Rattle.rules.specs.Seal.{mixed_in}
+use Rattle.rows.specs.Rows.{ruled_row}
+use Rattle.calls.specs.Hashes.{family_for}
+use Rattle.randomizers.proofs.RandomizerLaws.{randomizer_made}
+use Rattle.randomizers.proofs.randomizer_of_in.Goals as goal
+
+pub randomizer_in-requires : goal.randomizer_in-requires
+randomizer_in-requires c =
+    rw c.kit_of-kit.ensures c.requires
+
+pub returns : goal.returns
+returns c =
+    let a = c.args in
+    let r = ruled_row a.row in
+    randomizer_made r (family_for r) a.prf.now (mixed_in a.random.now a.seed.now)
+    (a.head.now ++ (a.context.now ++ a.message.now)) c.mixed_in-mixed.ensures.result_value
+    (rw c.kit_of-kit.ensures at c.randomizer_in.ensures)

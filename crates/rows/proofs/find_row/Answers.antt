@@ -1,0 +1,21 @@
+-- `find_row` answers as the rules' table does: its two rows are worked out, and any other number passes both.
+-- Assumes nothing.
+use mathlib.Core.Path.{◌≡◌, sym, ap, ◌∙◌}
+use mathlib.Core.List.{[], ◌∷◌}
+use borrow.Author.Rules.{rules}
+use Rattle.rules.specs.Sets.{row, rows, find, row_of}
+use Rattle.rules.proofs.SetLaws.{find_next, find_end}
+use Rattle.rows.proofs.find_row.Goals as goal
+
+pub returns-in-1 : goal.returns-in-1
+unfolding row_of find rows
+returns-in-1 c = ap row_of (sym c.in-1.keys1)
+
+pub returns-in-2 : goal.returns-in-2
+unfolding row_of find rows
+returns-in-2 c = ap row_of (sym c.in-1.keys2)
+
+pub returns-in_default : goal.returns-in_default
+unfolding row_of rows
+returns-in_default c =
+    sym (find_next _ _ _ c.in-1.rest.0.1 ∙ find_next _ _ _ c.in-1.rest.1 ∙ find_end _)

@@ -1,0 +1,28 @@
+-- `seal_under` seals where every test has passed, and else writes nothing.
+-- Assumes nothing.
+use mathlib.Core.Path.{sym, ◌∙◌}
+use Rattle.rows.specs.Rows.{ruled_row}
+use Rattle.sealing.proofs.SealingLaws.{seal_done, seal_refused, seal_long}
+use borrow.Author.Rules.{rules}
+use Rattle.sealing.proofs.seal_under.Goals as goal
+
+pub shape_of-out-then-number_of-eq0 : goal.shape_of-out-then-number_of-eq0
+shape_of-out-then-number_of-eq0 c =
+    let a = c.args in
+    let z = sym c.seal_answer-answer.ensures ∙ sym c.number_of.ensures ∙ c.if-number_of-eq0.true in
+    let l = seal_long a.secret.now a.message.now a.random.now a.out.now (ruled_row a.row) z in
+    (c.requires, l.0, l.1)
+
+pub returns : goal.returns
+returns c =
+    let a = c.args in
+    let z = sym c.seal_answer-answer.ensures ∙ sym c.number_of.ensures ∙ c.if-number_of-eq0.true in
+    seal_done a.secret.now a.message.now a.random.now a.out.now (ruled_row a.row) z
+    c.seal_in.ensures
+
+-- ?? unused returns-2 : tie.Need-returns-2
+returns-2 c =
+    let a = c.before.before.before.before.before.before.before.args in
+    let e = c.before.before.seal_answer_lem.ensures in
+    seal_refused a.secret.now a.message.now a.random.now a.out.now (ruled_row a.row) e
+    (λ z. c.if1.false (c.before.number_of_lem.ensures ∙ e ∙ z))

@@ -1,0 +1,7 @@
+-- `end` draws from the finished sponge.
+-- Assumes nothing.
+use borrow.Author.Rules.{rules}
+use Rattle.shake.proofs.end.Goals as goal
+
+pub returns : goal.returns
+returns c = cc

@@ -1,0 +1,19 @@
+-- `put_lane` writes a lane's bytes: those put, with those that the rest of the lane still holds, are the lane's.
+-- Assumes nothing.
+use mathlib.Core.Path.{◌≡◌, refl, sym, ap, ◌∙◌}
+use Prim.Native.Nat.{ℕ, ◌+◌, ◌-◌, ◌/◌, ◌≤◌}
+use mathlib.Core.List.{◌++◌, append-nil}
+use native.Mathlib.Omega.{arith}
+use native.Mathlib.Nat.{add-zero}
+use lib.ListN.{length, set, take, length-set}
+use borrow.Author.Rules.{rules}
+use Rattle.sponge.specs.Sponge.{digits}
+use Rattle.sponge.proofs.Lanes.{store_next}
+use Rattle.squeezing.proofs.put_lane.Given as goal
+
+abbrev pub invariant-loop-k : goal.invariant-loop-k
+invariant-loop-k l =
+    (l.k ≤ 8) × (length l.out ≡ length l.initial.out) × (take (l.i + l.k) l.out ++ digits 8 (8 - l.k) l.rest ≡ take l.i l.initial.out ++ digits 8 8 l.w)
+
+abbrev pub decreases-loop-k : goal.decreases-loop-k
+decreases-loop-k l = 8 - l.k
