@@ -23,7 +23,7 @@ loop-i-preserved c =
       omega arith,
       feed_next a.rate (omega arith) k a.m.now l.i g.result (omega arith) (omega arith) l.invariant.1
           c.turn-p.ensures.result_after
-          g.ensures.1,
+          g.ensures.result_after,
     )
 
 pub returns : goal.returns

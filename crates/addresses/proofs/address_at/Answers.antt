@@ -7,11 +7,11 @@ use Rattle.addresses.proofs.address_at.Goals as goal
 pub returns-in-Is : goal.returns-in-Is
 returns-in-Is c =
     let a = c.args in
-    made_is a.kind a.layer a.tree a.one a.two a.three c.requires c.found-1.given.1
+    made_is a.kind a.layer a.tree a.one a.two a.three c.requires c.in-Is.is
     c.address_of-found.ensures
 
 pub returns-in-Refused : goal.returns-in-Refused
 returns-in-Refused c =
     let a = c.args in
-    absurd (never_refused a.kind a.layer a.tree a.one a.two a.three c.requires c.enum_told-1.given.1
+    absurd (never_refused a.kind a.layer a.tree a.one a.two a.three c.requires c.in-Refused.is
     c.address_of-found.ensures)

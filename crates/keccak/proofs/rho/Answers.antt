@@ -11,14 +11,8 @@ use Rattle.keccak.specs.Constants.{walk, offsets}
 use Rattle.keccak.specs.Keccak.{lane, rotated, ρ}
 use Rattle.keccak.proofs.Each.{Filled, filled_start, filled_next, filled_end}
 use Rattle.keccak.proofs.Rounds.{lane_place, offsets_below}
+use Rattle.keccak.proofs.rho.Invariants.{turned}
 use Rattle.keccak.proofs.rho.Goals as goal
-
-
--- HELPERS TO INLINE
-abbrev turned : List ℕ → ℕ → ℕ → ℕ
-turned s x y = rotated (lane offsets x y) (lane s x y)
-
--- END HELPERS
 
 -- The table is what the standard's walk gives, by computation.
 pub loop-i-init : goal.loop-i-init

@@ -13,8 +13,12 @@ use Rattle.keccak.proofs.Each.{Filled, filled_start, filled_next, filled_end}
 use Rattle.keccak.proofs.Rounds.{lane_place, offsets_below}
 use Rattle.keccak.proofs.rho.Given as goal
 
+-- What ρ puts at column x and row y.
+abbrev pub turned : List ℕ → ℕ → ℕ → ℕ
+turned s x y = rotated (lane offsets x y) (lane s x y)
+
 abbrev pub invariant-loop-i : goal.invariant-loop-i
-invariant-loop-i l = (l.fn.o ≡ offsets) × (Filled (turned l.a) l.b l.i)
+invariant-loop-i l = (l.offsets ≡ offsets) × (Filled (turned l.a) l.b l.i)
 
 abbrev pub decreases-loop-i : goal.decreases-loop-i
 decreases-loop-i l = 25 - l.i

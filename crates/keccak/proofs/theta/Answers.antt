@@ -10,14 +10,8 @@ use borrow.Author.Rules.{rules}
 use Rattle.keccak.specs.Keccak.{lane, D, θ}
 use Rattle.keccak.proofs.Each.{Filled, filled_start, filled_next, filled_end, get_or-each}
 use Rattle.keccak.proofs.Rounds.{lane_place}
+use Rattle.keccak.proofs.theta.Invariants.{added}
 use Rattle.keccak.proofs.theta.Goals as goal
-
-
--- HELPERS TO INLINE
-abbrev added : List ℕ → ℕ → ℕ → ℕ
-added s x y = bit_xor (lane s x y) (D s x)
-
--- END HELPERS
 
 pub loop-i-init : goal.loop-i-init
 loop-i-init c = filled_start (added c.args.a.now)

@@ -12,6 +12,10 @@ use Rattle.keccak.proofs.Each.{Filled, filled_start, filled_next, filled_end, ge
 use Rattle.keccak.proofs.Rounds.{lane_place}
 use Rattle.keccak.proofs.theta.Given as goal
 
+-- What θ puts at column x and row y.
+abbrev pub added : List ℕ → ℕ → ℕ → ℕ
+added s x y = bit_xor (lane s x y) (D s x)
+
 abbrev pub invariant-loop-i : goal.invariant-loop-i
 invariant-loop-i l = Filled (added l.a) l.b l.i
 

@@ -14,7 +14,7 @@ use Rattle.keccak.proofs.Rounds.{rounds_next}
 use Rattle.permutation.proofs.permute.Given as goal
 
 abbrev pub invariant-loop-i : goal.invariant-loop-i
-invariant-loop-i l = (l.fn.t ≡ each constant 0 24) × (l.i ≤ 24) × (l.s ≡ rounds l.i l.initial.s)
+invariant-loop-i l = (l.constants ≡ each constant 0 24) × (l.i ≤ 24) × (l.s ≡ rounds l.i l.initial.s)
 
 abbrev pub decreases-loop-i : goal.decreases-loop-i
 decreases-loop-i l = 24 - l.i

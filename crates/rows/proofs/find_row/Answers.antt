@@ -9,13 +9,15 @@ use Rattle.rows.proofs.find_row.Goals as goal
 
 pub returns-in-1 : goal.returns-in-1
 unfolding row_of find rows
-returns-in-1 c = ap row_of (sym c.in-1.keys1)
+returns-in-1 c = ap row_of (sym c.in-1.is)
 
 pub returns-in-2 : goal.returns-in-2
 unfolding row_of find rows
-returns-in-2 c = ap row_of (sym c.in-1.keys2)
+returns-in-2 c = ap row_of (sym c.in-2.is)
 
 pub returns-in_default : goal.returns-in_default
 unfolding row_of rows
 returns-in_default c =
-    sym (find_next _ _ _ c.in-1.rest.0.1 ∙ find_next _ _ _ c.in-1.rest.1 ∙ find_end _)
+    let one : c.args.set ≡ 1 → ⊥ = search rules in
+    let two : c.args.set ≡ 2 → ⊥ = search rules in
+    sym (find_next _ _ _ one ∙ find_next _ _ _ two ∙ find_end _)

@@ -26,11 +26,11 @@ loop-i-preserved c =
     let n = g.result in
     let k = sponge a.s.now a.at in
     let z : 0 < a.rate = omega arith in (
-      omega (arith, g.auto.1.1.1.0),
-      g.auto.1.1.1.0 ∙ l.invariant.1,
-      drawn_next a.rate z k t.new.0 t.result l.i n (omega arith) (omega arith) l.invariant.2
-          t.ensures.0,
-      draw_next a.rate z k l.i n (omega arith) l.invariant.2 t.ensures.0 l.invariant.3 g.ensures.1,
+      omega (arith, g.auto.out),
+      g.auto.out ∙ l.invariant.1,
+      drawn_next a.rate z k t.new.s t.result l.i n (omega arith) (omega arith) l.invariant.2
+          t.ensures.result_after,
+      draw_next a.rate z k l.i n (omega arith) l.invariant.2 t.ensures.result_after l.invariant.3 g.ensures.out_after,
     )
 
 pub returns : goal.returns
