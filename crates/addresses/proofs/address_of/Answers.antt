@@ -52,7 +52,6 @@ returns-in-6 c =
 pub returns-in_default : goal.returns-in_default
 returns-in_default c =
     let a = c.args in
-    let r = c.in_default in ?
     sym (address_at_other a.kind a.layer a.tree a.one a.two a.three
-    (past_six a.kind r.0.0.0.0.0.0.1 r.0.0.0.0.0.1 r.0.0.0.0.1 r.0.0.0.1 r.0.0.1
-    r.0.1 r.1))
+    (past_six a.kind (search rules) (search rules) (search rules) (search rules) (search rules) (search rules)
+    (search rules)))

@@ -11,16 +11,16 @@ use Rattle.climbs.proofs.ClimbLaws.{joined_even, joined_odd, called}
 use Rattle.climbs.proofs.up.Goals as goal
 
 pub slice_bounds-own-end : goal.slice_bounds-own-end
-slice_bounds-own-end c = sym (length-take-le _ c.args.t6 (search rules))
+slice_bounds-own-end c = sym (length-take-le _ c.args.v (search rules))
 
 pub returns-then-i-eq0 : goal.returns-then-i-eq0
 returns-then-i-eq0 c =
     let a = c.args in
     called ((hashes_of a.kit a.seed.now).hash H) c.node_address-adrs.ensures
-    (joined_even (a.i % 2) (take a.kit.n a.t6) a.sibling.now c.if-i-eq0.true) c.h.ensures
+    (joined_even (a.i % 2) (take a.kit.n a.v) a.sibling.now c.if-i-eq0.true) c.h.ensures
 
 pub returns-else-i-eq0 : goal.returns-else-i-eq0
 returns-else-i-eq0 c =
     let a = c.args in
     called ((hashes_of a.kit a.seed.now).hash H) c.node_address-adrs.ensures
-    (joined_odd (a.i % 2) (take a.kit.n a.t6) a.sibling.now c.if-i-eq0.false) c.h-else-i-eq0.ensures
+    (joined_odd (a.i % 2) (take a.kit.n a.v) a.sibling.now c.if-i-eq0.false) c.h-else-i-eq0.ensures

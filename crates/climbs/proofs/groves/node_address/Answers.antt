@@ -7,9 +7,9 @@ use Rattle.climbs.proofs.groves.node_address.Goals as goal
 pub returns-in-Layer : goal.returns-in-Layer
 returns-in-Layer c =
     let a = c.args in
-    node_in a.z a.i c.grove-1.given.1 c.address_at.ensures
+    node_in a.z a.i c.in-Layer.is c.address_at.ensures
 
 pub returns-in-Forest : goal.returns-in-Forest
 returns-in-Forest c =
     let a = c.args in
-    node_in a.z a.i c.grove-in-Forest-1.given.1 c.address_at-in-Forest.ensures
+    node_in a.z a.i c.in-Forest.is c.address_at-in-Forest.ensures

@@ -10,5 +10,5 @@ pub returns : goal.returns
 returns c =
     let n = c.args.kit.n in
     let f = c.forest_leaf_in in
-    let long = f.auto.1.1.1.1.1.1.0 ∙ zeros_part n 32 c.requires in
-    rw (take_at f.new.1.1.1.1.1.1.0 _ n long) f.ensures
+    let long = f.auto.io ∙ zeros_part n 32 c.requires in
+    rw (take_at f.new.io _ n long) f.ensures

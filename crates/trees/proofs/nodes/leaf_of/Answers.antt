@@ -8,9 +8,9 @@ use Rattle.trees.proofs.nodes.leaf_of.Goals as goal
 pub returns-in-Layer : goal.returns-in-Layer
 returns-in-Layer c =
     let a = c.args in
-    leaf_in (hashes_of a.kit a.seed.now) a.sk.now a.i c.grove-1.given.1 c.leaf.ensures
+    leaf_in (hashes_of a.kit a.seed.now) a.sk.now a.i c.in-Layer.is c.leaf.ensures
 
 pub returns-in-Forest : goal.returns-in-Forest
 returns-in-Forest c =
     let a = c.args in
-    leaf_in (hashes_of a.kit a.seed.now) a.sk.now a.i c.grove-in-Forest-1.given.1 c.forest_leaf.ensures
+    leaf_in (hashes_of a.kit a.seed.now) a.sk.now a.i c.in-Forest.is c.forest_leaf.ensures

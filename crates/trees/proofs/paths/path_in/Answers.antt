@@ -45,7 +45,7 @@ loop-z-preserved c =
     let long = length-take-le a.kit.n c.node-v.result (search rules) in (
       omega arith,
       omega (arith, put.ensures.ends, long),
-      put.auto.0 ∙ l.invariant.2,
+      put.auto.out ∙ l.invariant.2,
       (room_turn a.count l.z l.j c.loop-z-test.true l.invariant.3).1,
       rw put.ensures.front
           (path_turn w (tree_of w a.sk.now a.grove) a.count l.z l.j (take l.at l.out)
