@@ -1,6 +1,7 @@
 // The sponge of an extendable-output function over any rate of whole lanes takes bytes in: the lanes are lent, and the
 // place of the next byte goes in and comes back. Whole lanes go in where the place is a lane's first.
 #![tactic(auto)]
+
 ghost use Rattle.std.specs.Prelude.{◌≡◌, ◌+◌, ◌≤◌, ◌<◌, length, take, drop, get_or};
 ghost use Rattle.sponge.specs.Sponge.{number};
 ghost use Rattle.sponge.specs.Stream.{Rate, sponge, mixed, turn as turned, feed, finish as finished};

@@ -1,16 +1,16 @@
 -- The laws of addresses in the code: a type below 7 has an address, and a tree number of 64 bits fills eight bytes.
 -- Assumes nothing.
-use mathlib.Core.Path.{◌≡◌, refl, sym, ap, ap₂, ◌∙◌, subst}
+use mathlib.Core.Path.{◌≡◌, refl, sym, ap}
 use mathlib.Core.Bool.{Bool, true, false, cond}
-use mathlib.Core.Option.{Option, some, none}
-use mathlib.Core.List.{List, [], ◌∷◌, ◌++◌}
-use Prim.Native.Nat.{ℕ, zero, suc, ◌+◌, ◌*◌, ◌/◌, ◌%◌, ◌^◌, ◌<◌, ◌≤◌}
+use mathlib.Core.Option.{some, none}
+use mathlib.Core.List.{[], ◌∷◌}
+use Prim.Native.Nat.{ℕ, zero, suc, ◌/◌, ◌%◌, ◌^◌, ◌<◌, ◌≤◌}
 use native.Mathlib.Nat.{div-eq_of_lt, div-one, lt_of_lt_of_le}
 use native.Mathlib.Omega.{arith}
-use lib.Dec.{T, ltb, ltb→lt, lt→ltb, nltb→le, T_not}
+use lib.Dec.{T, ltb, ltb→lt, lt→ltb}
 use lib.Pow.{pow_mono}
 use Rattle.rules.specs.Digits.{digits}
-use Rattle.rules.specs.Places.{Bytes, address}
+use Rattle.rules.specs.Places.{address}
 use Rattle.addresses.specs.declared.Address.{Address}
 use Rattle.addresses.specs.declared.Made.{Made}
 use Rattle.addresses.specs.declared.Made.TheVariants.{Is, Refused}

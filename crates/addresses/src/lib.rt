@@ -1,5 +1,6 @@
 // Addresses (FIPS 205, sections 4.2 and 4.3), made by type and words: a word that the type lacks is cleared.
 #![tactic(auto)]
+
 ghost use Rattle.std.specs.Prelude.{◌≡◌, ◌<◌};
 ghost use Rattle.rules.specs.Places.{address};
 ghost use Rattle.addresses.specs.Addresses.{bytes_of, made, words_of, place_at, address_at};

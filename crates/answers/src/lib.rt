@@ -1,5 +1,6 @@
 // The answers, and the tests that come before any work.
 #![tactic(auto)]
+
 ghost use Rattle.std.specs.Prelude.{◌≡◌, cond, ◌||◌};
 ghost use Rattle.answers.specs.Answers.{number};
 ghost use Rattle.answers.specs.Tests.{same};

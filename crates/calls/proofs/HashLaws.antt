@@ -1,7 +1,7 @@
 -- SHAKE256 of joined pieces, from a sponge that was fed them one after the other.
 -- Assumes nothing.
 use mathlib.Core.Path.{◌≡◌, sym, ap, ◌∙◌}
-use mathlib.Core.List.{List, ◌++◌, append_assoc}
+use mathlib.Core.List.{◌++◌, append_assoc}
 use Prim.Native.Nat.{ℕ}
 use lib.ListN.{length, take}
 use Rattle.lists.proofs.Parts.{front_part}

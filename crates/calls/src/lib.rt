@@ -1,5 +1,6 @@
 // The hash calls that take an address (FIPS 205, sections 4.1 and 11). Callers go by the rules' family and see no hash.
 #![tactic(auto)]
+
 ghost use Rattle.std.specs.Prelude.{◌≡◌, ◌++◌, ◌≤◌, length, take};
 ghost use Rattle.shake.specs.Shake.{shake256};
 ghost use Rattle.rules.specs.Calls.{Function};

@@ -1,5 +1,6 @@
 // Chains, and what a seal shows of them (FIPS 205, algorithms 5 and 7).
 #![tactic(auto)]
+
 ghost use Rattle.std.specs.Prelude.{◌≡◌, ◌+◌, ◌*◌, ◌<◌, ◌^◌, length};
 ghost use Rattle.lists.specs.Below.{Below};
 ghost use Rattle.rules.specs.Places.{chain_step};

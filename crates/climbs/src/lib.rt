@@ -1,5 +1,6 @@
 // The climb from a leaf to a root along its siblings (FIPS 205, algorithms 11 and 17), and what a walk gives.
 #![tactic(auto)]
+
 pub mod groves;
 
 ghost use Rattle.std.specs.Prelude.{◌≡◌, ◌+◌, ◌*◌, ◌/◌, ◌%◌, ◌^◌, ◌≤◌, ◌<◌, length, take};

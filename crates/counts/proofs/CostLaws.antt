@@ -1,22 +1,21 @@
 -- What a value costs: 15·(c div 16 + c div 256 + 3) by its checksum c, so 45 is the least, and the zero value, whose
 -- checksum is the greatest, has the greatest cost.
 -- Assumes nothing.
-use mathlib.Core.Path.{◌≡◌, refl, sym, ap, ap₂, ◌∙◌, subst}
+use mathlib.Core.Path.{◌≡◌, refl, sym, ap, ap₂, ◌∙◌}
 use mathlib.Core.List.{List, [], ◌∷◌, ◌++◌}
 use Prim.Native.Nat.{ℕ, zero, suc, ◌+◌, ◌-◌, ◌*◌, ◌/◌, ◌%◌, ◌^◌, ◌≤◌, ◌<◌}
 use native.Mathlib.Nat.{zero-lt-suc, div-one, mod-eq_of_lt, div-div-eq-div-mul, div-lt_iff_lt-mul, mul-zero, mul-suc, suc-mul, add-suc, suc_inj, zero-mul, add-le-add, le_refl}
 use native.Mathlib.Omega.{arith}
 use lib.ListN.{length, replicate, length-replicate}
-use lib.Pow.{pow-add, pow_pos, suc_ones}
+use lib.Pow.{pow-add, suc_ones}
 use Rattle.lists.proofs.Below.{below_replicate}
-use Rattle.rules.specs.Digits.{value, digits, to_int, base2b}
-use Rattle.rules.specs.Places.{Bytes, IsBytes}
+use Rattle.rules.specs.Digits.{value, digits}
+use Rattle.rules.specs.Places.{Bytes}
 use Rattle.rules.specs.Calls.{Family}
 use Rattle.rules.specs.Chains.{steps, own_digits, checksum, chain_digits}
 use Rattle.rules.specs.Sets.{Row, Legal, rows}
-use Rattle.rules.specs.Digest.{Pointed, pointed}
+use Rattle.rules.specs.Digest.{Pointed}
 use Rattle.rules.specs.Keys.{piece}
-use Rattle.rules.specs.Seal.{digest_of, part}
 use Rattle.rules.specs.Check.{checked_value}
 use Rattle.counts.specs.Counts.{cost, steps_of, f_calls, costs_of, calls_by_cost, bounds}
 use Rattle.rules.proofs.DigitLaws.{digits_value, base2b_whole}

@@ -2,7 +2,7 @@
 -- Assumes nothing.
 use Rattle.std.specs.Prelude.{cond, List, [], ◌∷◌, ℕ, zero, suc, ◌+◌, ◌*◌, ◌/◌, eqb}
 use Rattle.rules.specs.Places.{Bytes}
-use Rattle.rules.specs.Calls.{Function, F, H, T, PRF, Kind, of, randomizer, digest, Call, Family}
+use Rattle.rules.specs.Calls.{F, H, T, PRF, Kind, of, randomizer, digest, Call, Family}
 use Rattle.rules.specs.Chains.{steps, checksum, chain_digits}
 use Rattle.rules.specs.Sets.{Row}
 use Rattle.rules.specs.Digest.{Pointed, pointed}

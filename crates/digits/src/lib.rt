@@ -1,5 +1,6 @@
 // Byte strings as numbers, and their digits, written into lent slices (FIPS 205, sections 4.4 and 5.2).
 #![tactic(auto)]
+
 ghost use Rattle.std.specs.Prelude.{◌≡◌, ◌+◌, ◌-◌, ◌*◌, ◌/◌, ◌%◌, ◌^◌, ◌<◌, ◌≤◌, length};
 ghost use Rattle.rules.specs.Digits.{to_int, to_byte, base2b};
 ghost use Rattle.rules.specs.Chains.{chains, steps, chain_digits};

@@ -1,16 +1,16 @@
 -- What leads to the own root of a layer's tree is what the rules write, or shows a collision: the path from the root
 -- down, T, then the chains from 0 up.
 -- Assumes nothing.
-use mathlib.Core.Path.{◌≡◌, refl, sym, ap, ap₂, ◌∙◌, subst}
+use mathlib.Core.Path.{◌≡◌, sym, ap, ap₂, ◌∙◌}
 use mathlib.Core.Logic.{◌⊎◌, inl, inr}
-use mathlib.Core.List.{List, [], ◌∷◌, ◌++◌}
-use Prim.Native.Nat.{ℕ, zero, suc, ◌+◌, ◌-◌, ◌*◌, ◌/◌, ◌%◌, ◌^◌, ◌≤◌, ◌<◌}
+use mathlib.Core.List.{◌++◌}
+use Prim.Native.Nat.{ℕ, ◌*◌, ◌^◌, ◌<◌}
 use native.Mathlib.Nat.{zero-add, div-eq_of_lt}
 use native.Mathlib.Omega.{arith}
 use lib.ListN.{length, get_or, take, drop, length-drop, take-append-drop}
 use lib.Seq.{take_at, length-take-le}
 use Rattle.lists.proofs.Parts.{take_drop_take, piece_room}
-use Rattle.rules.specs.Places.{Bytes, IsBytes, tree_node}
+use Rattle.rules.specs.Places.{Bytes, tree_node}
 use Rattle.rules.specs.Calls.{Hashes, Run, Call}
 use Rattle.rules.specs.Chains.{chains, chain_digits, leaf_from, own_chain}
 use Rattle.rules.specs.Trees.{climb}

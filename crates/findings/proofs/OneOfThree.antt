@@ -3,8 +3,8 @@
 -- Assumes nothing.
 use mathlib.Core.Path.{◌≡◌, refl, sym, ap, ap₂, ◌∙◌, subst}
 use mathlib.Core.Logic.{◌≢◌, ◌⊎◌, inl, inr}
-use mathlib.Core.List.{List, [], ◌∷◌, ◌++◌}
-use Prim.Native.Nat.{ℕ, zero, suc, ◌+◌, ◌-◌, ◌*◌, ◌/◌, ◌%◌, ◌^◌, ◌≤◌, ◌<◌}
+use mathlib.Core.List.{◌++◌}
+use Prim.Native.Nat.{ℕ, zero, suc, ◌+◌, ◌-◌, ◌*◌, ◌^◌, ◌<◌}
 use native.Mathlib.Nat.{add-mul, zero-add}
 use native.Mathlib.Omega.{arith}
 use lib.ListN.{length, get_or, take, drop, length-drop, take-append-drop}
@@ -12,21 +12,21 @@ use lib.Seq.{take_all}
 use Rattle.lists.proofs.Parts.{drop_to}
 use Rattle.rules.specs.Places.{Bytes, IsBytes}
 use Rattle.rules.specs.Calls.{Family, under, Run, ◌>>=◌, Call}
-use Rattle.rules.specs.Chains.{chains, chain_digits}
-use Rattle.rules.specs.Layers.{layer_bytes, own_root, layer_seal, layer_root, layers_seal, layers_root, tree_at, leaf_at}
-use Rattle.rules.specs.Forest.{forest_bytes, own_forest, forest_seal, forest_root}
+use Rattle.rules.specs.Chains.{chain_digits}
+use Rattle.rules.specs.Layers.{own_root, layer_seal, layer_root, layers_root, tree_at, leaf_at}
+use Rattle.rules.specs.Forest.{own_forest, forest_seal}
 use Rattle.rules.specs.Sets.{Row, Legal}
-use Rattle.rules.specs.Digest.{Pointed, pointed}
+use Rattle.rules.specs.Digest.{Pointed}
 use Rattle.rules.specs.Keys.{piece, key_root, public_key}
 use Rattle.rules.specs.Seal.{digest_of, written, seal_with, part_start, part_length, part, held_value}
-use Rattle.rules.specs.Check.{layers_part, root_at, checked_root, Accepted, checked_value}
+use Rattle.rules.specs.Check.{checked_root, Accepted, checked_value}
 use Rattle.findings.specs.Findings.{Collision, OwnCall, of_tree, of_forest, LowStart, holders, points_to, OneOfThree, own_seal, collision, low_start}
 use Rattle.rules.proofs.SetLaws.{checksum_fits}
 use Rattle.rules.proofs.ChecksumLaws.{lower_digit}
 use Rattle.findings.proofs.FindingLaws.{bytes_discrete, Owns, before, after, then, found}
 use Rattle.findings.proofs.LayerFindings.{Shows, holder_shows, layer_shows}
-use Rattle.rules.proofs.LayerLaws.{layer_root_sized, own_root_sized, zero_tree}
-use Rattle.rules.proofs.ForestLaws.{forest_root_sized, own_forest_sized}
+use Rattle.rules.proofs.LayerLaws.{own_root_sized, zero_tree}
+use Rattle.rules.proofs.ForestLaws.{own_forest_sized}
 use Rattle.findings.proofs.ForestFindings.{forest_shows}
 use Rattle.rules.proofs.DigestLaws.{Inside, points_inside, heights, tree_at_lt}
 use Rattle.rules.proofs.KeyLaws.{public_root}

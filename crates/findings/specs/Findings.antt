@@ -3,7 +3,7 @@
 use Rattle.std.specs.Prelude.{◌≡◌, ◌≢◌, ℕ, suc, ◌-◌, ◌*◌, ◌^◌, ◌<◌, get_or}
 use mathlib.Core.List.{List, Memᴰ}
 use Rattle.rules.specs.Places.{Bytes, Place, address}
-use Rattle.rules.specs.Calls.{Function, F, H, T, Call, call_of, Family, Hashes, under, Run}
+use Rattle.rules.specs.Calls.{Function, F, H, T, Call, call_of, Family, Hashes, under}
 use Rattle.rules.specs.Chains.{chains, chain_digits, own_chain}
 use Rattle.rules.specs.Layers.{tree_at, leaf_at, own_root}
 use Rattle.rules.specs.Forest.{own_forest}

@@ -1,6 +1,7 @@
 // θ, ρ and π, the step mappings of KECCAK-f[1600] that mix columns, rotate lanes and move them (FIPS 202, 3.2.1 to
 // 3.2.3), plainly: a loop over the 25 lanes, or a list of them.
 #![tactic(auto)]
+
 ghost use Rattle.std.specs.Prelude.{◌≡◌, ◌<◌};
 ghost use Rattle.keccak.specs.Keccak.{each, C, D, rotated, θ, ρ, π};
 

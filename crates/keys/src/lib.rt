@@ -1,5 +1,6 @@
 // Keys (FIPS 205, algorithm 18).
 #![tactic(auto)]
+
 ghost use Rattle.std.specs.Prelude.{◌≡◌, ◌++◌, ◌+◌, length, take};
 ghost use Rattle.rules.specs.Keys.{key_root, public_key, secret_key};
 ghost use Rattle.rows.specs.Rows.{ruled_row};

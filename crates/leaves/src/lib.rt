@@ -1,5 +1,6 @@
 // The key's own leaves (FIPS 205, algorithm 6).
 #![tactic(auto)]
+
 ghost use Rattle.std.specs.Prelude.{◌≡◌, ◌*◌, ◌<◌, ◌≤◌, ◌^◌, length, take};
 ghost use Rattle.lists.specs.Below.{Below};
 ghost use Rattle.rules.specs.Places.{chain_ends, address};

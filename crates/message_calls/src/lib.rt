@@ -1,6 +1,7 @@
 // The hash calls that take a message (FIPS 205, sections 4.1 and 11): the randomizer and the digest. The framed message
 // is what precedes the message, in two pieces, and then the message.
 #![tactic(auto)]
+
 ghost use Rattle.std.specs.Prelude.{◌≡◌, ◌++◌, length};
 ghost use Rattle.calls.specs.Hashes.{family_of};
 

@@ -1,5 +1,6 @@
 // Writing the parts of a result one after the other.
 #![tactic(auto)]
+
 ghost use Rattle.std.specs.Prelude.{◌+◌, ◌≤◌, length};
 ghost use Rattle.parts.specs.Put.{Put};
 

@@ -1,5 +1,6 @@
 // KECCAK-f[1600] (FIPS 202, 3.2 to 3.4): χ and ι, plainly, and 24 rounds of the step mappings.
 #![tactic(auto)]
+
 ghost use Rattle.std.specs.Prelude.{◌≡◌};
 ghost use Rattle.keccak.specs.Keccak.{χ, round as round_of, keccak_f};
 

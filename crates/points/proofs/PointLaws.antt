@@ -3,7 +3,7 @@
 -- Assumes nothing.
 use mathlib.Core.Path.{◌≡◌, sym, ap, ap₂, ◌∙◌}
 use mathlib.Core.List.{List}
-use Prim.Native.Nat.{ℕ, zero, suc, ◌+◌, ◌-◌, ◌*◌, ◌/◌, ◌%◌, ◌^◌, ◌≤◌, ◌<◌}
+use Prim.Native.Nat.{ℕ, zero, suc, ◌+◌, ◌-◌, ◌*◌, ◌%◌, ◌^◌, ◌≤◌, ◌<◌}
 use native.Mathlib.Nat.{sub-zero, mod-eq_of_lt, mod-lt, lt_of_lt_of_le, suc-mul, mul_comm}
 use native.Mathlib.Omega.{arith}
 use lib.ListN.{length, take, drop}
@@ -20,7 +20,6 @@ use Rattle.rules.specs.Sets.{Row, Legal, bytes_for}
 use Rattle.rules.specs.Digest.{Pointed, last_bits, pointed}
 use Rattle.rules.proofs.DigestLaws.{Inside, points_inside}
 use Rattle.rules.proofs.ReadLaws.{value_fits}
-use Rattle.rows.specs.Ready.{Ready}
 
 -- ---- The last bits of a number
 

@@ -1,5 +1,6 @@
 // Where a message digest points (FIPS 205, algorithms 19, lines 6 to 10, and 20, lines 9 to 13).
 #![tactic(auto)]
+
 ghost use Rattle.std.specs.Prelude.{◌≡◌, ◌++◌, ◌≤◌, length};
 ghost use Rattle.rules.specs.Digest.{last_bits, pointed};
 ghost use Rattle.rules.specs.Seal.{digest_of};

@@ -1,7 +1,7 @@
 -- The parts of a seal of a ready row have the sizes that walking and writing need.
 -- Assumes nothing.
-use mathlib.Core.Path.{◌≡◌, ◌∙◌}
-use Prim.Native.Nat.{ℕ, ◌+◌, ◌*◌, ◌%◌, ◌^◌, ◌≤◌, ◌<◌}
+use mathlib.Core.Path.{◌≡◌}
+use Prim.Native.Nat.{ℕ, ◌*◌, ◌%◌, ◌^◌}
 use native.Mathlib.Omega.{arith}
 use Rattle.lists.proofs.Bits.{one_shifted}
 use Rattle.rules.specs.Sets.{Row}

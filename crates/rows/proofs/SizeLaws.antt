@@ -1,7 +1,7 @@
 -- The sizes of a ready row: its forest's part is small, and a seal is the randomizer, the forest's part and the
 -- layers'; and the sizes of values of at most 32 bytes.
 -- Assumes nothing.
-use mathlib.Core.Path.{◌≡◌, ap₂, ◌∙◌}
+use mathlib.Core.Path.{◌≡◌, ap₂}
 use Prim.Native.Nat.{ℕ, ◌+◌, ◌-◌, ◌*◌, ◌^◌, ◌≤◌, ◌<◌}
 use native.Mathlib.Nat.{mul-le-mul, mul-le-mul_left, mul-le-mul_right, le_trans, zero-mul}
 use native.Mathlib.Omega.{arith}

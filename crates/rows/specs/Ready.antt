@@ -1,6 +1,6 @@
 -- What the code needs of a row: it is legal, and fits the room that the code has.
 -- Assumes nothing.
-use Rattle.std.specs.Prelude.{Bool, ◌&&◌, ℕ, ◌+◌, ◌-◌, ◌≤◌, leb}
+use Rattle.std.specs.Prelude.{Bool, ◌&&◌, ◌-◌, ◌≤◌, leb}
 use Rattle.rules.specs.Sets.{Row, Legal}
 
 -- The capacities: values of 32 bytes, 35 forest trees, digits of 16 bits, heights of 16, 64 layers, tree numbers of 64

@@ -2,17 +2,17 @@
 -- then each layer, leads to the value that the next one seals.
 -- Assumes nothing.
 use mathlib.Core.Path.{◌≡◌, refl, sym, ap, ap₂, ◌∙◌}
-use mathlib.Core.List.{List, ◌++◌}
-use Prim.Native.Nat.{ℕ, zero, suc, ◌+◌, ◌-◌, ◌*◌, ◌≤◌, ◌<◌}
+use mathlib.Core.List.{◌++◌}
+use Prim.Native.Nat.{ℕ, ◌+◌, ◌-◌}
 use native.Mathlib.Nat.{zero-add}
 use native.Mathlib.Omega.{arith}
 use lib.ListN.{length, length-append}
-use Rattle.rules.specs.Places.{Bytes, IsBytes}
-use Rattle.rules.specs.Calls.{Family, under, Run, ◌>>=◌}
+use Rattle.rules.specs.Places.{Bytes}
+use Rattle.rules.specs.Calls.{Family, under, ◌>>=◌}
 use Rattle.rules.specs.Layers.{own_root, tree_at, leaf_at}
 use Rattle.rules.specs.Sets.{Row, Legal}
 use Rattle.rules.specs.Digest.{Pointed, pointed}
-use Rattle.rules.specs.Keys.{piece, key_root, public_key, secret_key}
+use Rattle.rules.specs.Keys.{key_root, public_key, secret_key}
 use Rattle.rules.specs.Seal.{mixed_in, randomizer_of, digest_of, written, seal_with, seal_of, part, held_value}
 use Rattle.rules.specs.Check.{layers_part, root_at, checked_root, Accepted}
 use Rattle.rules.proofs.LayerLaws.{layers_accept}

@@ -1,13 +1,12 @@
 -- The laws of chains and of one-time seals: steps add up, so a shown value walks on to its own end.
 -- Assumes nothing.
-use mathlib.Core.Path.{◌≡◌, refl, sym, ap, ap₂, ◌∙◌, subst}
+use mathlib.Core.Path.{◌≡◌, refl, sym, ap, ◌∙◌}
 use mathlib.Core.List.{List, [], ◌∷◌, ◌++◌}
-use Prim.Native.Nat.{ℕ, zero, suc, ◌+◌, ◌-◌, ◌*◌, ◌≤◌, ◌<◌}
-use native.Mathlib.Nat.{zero-mul, suc-mul, zero-add, suc-add, add-suc, add-zero}
+use Prim.Native.Nat.{ℕ, zero, suc, ◌+◌, ◌-◌, ◌*◌, ◌<◌}
+use native.Mathlib.Nat.{zero-mul, zero-add, suc-add, add-suc, add-zero}
 use native.Mathlib.Omega.{arith}
-use native.Mathlib.Numerals.{add-one}
-use lib.ListN.{length, get_or, take, drop, length-append, length-drop, take-append-drop}
-use lib.Seq.{take_at, drop_at, length-take-le}
+use lib.ListN.{length, get_or, length-append}
+use lib.Seq.{take_at, drop_at}
 use Rattle.lists.proofs.Parts.{piece_suc}
 use Rattle.lists.specs.Below.{Below}
 use Rattle.rules.specs.Places.{Bytes, IsBytes, Place, chain_step, chain_ends, chain_secret, address}

@@ -8,10 +8,9 @@ use Rattle.rules.specs.Calls.{Family, under, Run, ◌>>=◌}
 use Rattle.rules.specs.Layers.{layer_root, layers_root, tree_at, leaf_at}
 use Rattle.rules.specs.Forest.{forest_root}
 use Rattle.rules.specs.Sets.{Row}
-use Rattle.rules.specs.Digest.{Pointed, pointed}
-use Rattle.rules.specs.Keys.{piece}
-use Rattle.rules.specs.Seal.{digest_of, part_start, part_length, part}
-use Rattle.rules.specs.Check.{layers_part, root_at, checked_root, checked_value}
+use Rattle.rules.specs.Digest.{Pointed}
+use Rattle.rules.specs.Seal.{part_start, part_length, part}
+use Rattle.rules.specs.Check.{layers_part, root_at, checked_value}
 use Rattle.rules.proofs.LayerLaws.{layer_root_sized}
 use Rattle.rules.proofs.ForestLaws.{forest_root_sized}
 use Rattle.rules.proofs.SealLaws.{next_part}

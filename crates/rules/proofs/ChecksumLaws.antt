@@ -4,7 +4,7 @@
 use mathlib.Core.Path.{◌≡◌, refl, sym, ap, ap₂, ◌∙◌}
 use mathlib.Core.Logic.{◌≢◌, ◌⊎◌, inl, inr}
 use mathlib.Core.List.{List, [], ◌∷◌, ◌++◌}
-use Prim.Native.Nat.{ℕ, zero, suc, ◌+◌, ◌-◌, ◌*◌, ◌/◌, ◌%◌, ◌^◌, ◌≤◌, ◌<◌}
+use Prim.Native.Nat.{ℕ, suc, ◌+◌, ◌*◌, ◌/◌, ◌^◌, ◌≤◌, ◌<◌}
 use native.Mathlib.Nat.{mod-eq_of_lt, zero-lt-suc, le_refl, add-le-add, mul-le-mul_right, suc_inj, mul-div_cancel}
 use native.Mathlib.Decide.{dec_lt}
 use native.Mathlib.Omega.{arith}
@@ -15,7 +15,7 @@ use Rattle.rules.specs.Digits.{value, digits, base2b, to_byte}
 use Rattle.rules.specs.Places.{Bytes, IsBytes}
 use Rattle.rules.specs.Chains.{chains, steps, own_digits, checksum, chain_digits}
 use Rattle.lists.proofs.Parts.{append_inj}
-use Rattle.rules.proofs.DigitLaws.{length_digits, length-base2b, digits_below, base2b_below, value_digits, base2b_inj}
+use Rattle.rules.proofs.DigitLaws.{length_digits, length-base2b, base2b_below, value_digits, base2b_inj}
 
 -- ---- One list of digits over another: none of its digits is lower
 

@@ -1,8 +1,8 @@
 -- The laws of digits: what digits stand for, and that equal digits are equal numbers, by recursion on their number.
 -- Assumes nothing.
 use mathlib.Core.Path.{◌≡◌, refl, sym, ap, ap₂, ◌∙◌}
-use mathlib.Core.List.{List, [], ◌∷◌, ◌++◌}
-use Prim.Native.Nat.{ℕ, zero, suc, ◌+◌, ◌-◌, ◌*◌, ◌/◌, ◌%◌, ◌^◌, ◌<◌}
+use mathlib.Core.List.{List, [], ◌∷◌}
+use Prim.Native.Nat.{ℕ, zero, suc, ◌+◌, ◌*◌, ◌/◌, ◌%◌, ◌^◌, ◌<◌}
 use native.Mathlib.Nat.{mod-lt, mod-eq_of_lt, mul-zero, mul-suc, add_comm, mod-one, div-one, mul_assoc, mul-add-div_right, mul-add-mod_self_right, sub_self}
 use native.Mathlib.Omega.{arith}
 use lib.ListN.{length}

@@ -1,17 +1,17 @@
 -- The laws of the forest: what the rules write leads to the own roots.
 -- Assumes nothing.
-use mathlib.Core.Path.{◌≡◌, refl, sym, ap, ap₂, ◌∙◌}
+use mathlib.Core.Path.{◌≡◌, refl, sym, ap, ◌∙◌}
 use mathlib.Core.List.{List, [], ◌∷◌, ◌++◌}
-use Prim.Native.Nat.{ℕ, zero, suc, ◌+◌, ◌-◌, ◌*◌, ◌/◌, ◌^◌, ◌≤◌, ◌<◌}
+use Prim.Native.Nat.{ℕ, suc, ◌+◌, ◌*◌, ◌^◌}
 use native.Mathlib.Nat.{zero-mul, suc-mul}
 use native.Mathlib.Omega.{arith}
 use lib.ListN.{length, drop, length-append}
 use lib.Pow.{high}
 use lib.Seq.{take_at, drop_at, drop-drop}
 use Rattle.lists.specs.Below.{Below}
-use Rattle.rules.specs.Places.{Bytes, IsBytes, forest_node, forest_roots, forest_secret, address}
+use Rattle.rules.specs.Places.{Bytes, IsBytes, forest_node, forest_secret, address}
 use Rattle.rules.specs.Calls.{F, T, PRF, Hashes}
-use Rattle.rules.specs.Trees.{node, path, climb}
+use Rattle.rules.specs.Trees.{node, path}
 use Rattle.rules.specs.Forest.{tree_bytes, forest_bytes, forest_leaf, forest_tree, roots, own_forest, forest_seal, forest_walk, forest_root}
 use Rattle.rules.proofs.TreeLaws.{length-path, leaf_climbs}
 

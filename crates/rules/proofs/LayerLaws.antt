@@ -1,18 +1,18 @@
 -- The laws of a layer and of the layers above each other: what the rules write leads to the own root.
 -- Assumes nothing.
-use mathlib.Core.Path.{◌≡◌, refl, sym, ap, ap₂, ◌∙◌, subst}
-use mathlib.Core.List.{List, [], ◌∷◌, ◌++◌}
-use Prim.Native.Nat.{ℕ, zero, suc, ◌+◌, ◌-◌, ◌*◌, ◌/◌, ◌%◌, ◌^◌, ◌≤◌, ◌<◌}
-use native.Mathlib.Nat.{zero-mul, suc-mul, zero-add, suc-add, add-suc, add-zero, div-eq_of_lt, mod-lt, mul-suc, mul-zero}
+use mathlib.Core.Path.{◌≡◌, refl, sym, ap, ap₂, ◌∙◌}
+use mathlib.Core.List.{◌++◌}
+use Prim.Native.Nat.{ℕ, zero, suc, ◌+◌, ◌*◌, ◌/◌, ◌%◌, ◌^◌, ◌<◌}
+use native.Mathlib.Nat.{suc-mul, suc-add, add-suc, add-zero, div-eq_of_lt, mod-lt, mul-suc, mul-zero}
 use native.Mathlib.Omega.{arith}
 use lib.ListN.{length, take, drop, length-append}
 use lib.Arith.{lt-one}
 use lib.Pow.{pow_pos, shr_lt}
 use lib.Seq.{take_at, drop_at}
 use Rattle.rules.specs.Places.{Bytes, IsBytes, tree_node}
-use Rattle.rules.specs.Calls.{Hashes, Run}
-use Rattle.rules.specs.Chains.{chains, chain_digits, leaf, shown, leaf_from}
-use Rattle.rules.specs.Trees.{path, climb}
+use Rattle.rules.specs.Calls.{Hashes}
+use Rattle.rules.specs.Chains.{chain_digits, shown}
+use Rattle.rules.specs.Trees.{path}
 use Rattle.rules.specs.Layers.{chain_bytes, layer_bytes, layer_tree, own_root, layer_seal, layer_root, layers_seal, layers_root}
 use Rattle.rules.proofs.ChecksumLaws.{length-chain_digits}
 use Rattle.rules.proofs.ChainLaws.{length-shown, leaf_sized, leaf_from_sized, leaf_accepts}

@@ -1,25 +1,23 @@
 -- The length of a seal, what the rules write as each of its parts, and a frame by its pieces.
 -- Assumes nothing.
-use mathlib.Core.Path.{◌≡◌, refl, sym, ap, ap₂, ◌∙◌, subst}
-use mathlib.Core.List.{List, [], ◌∷◌, ◌++◌, append_assoc}
-use Prim.Native.Nat.{ℕ, zero, suc, ◌+◌, ◌-◌, ◌*◌, ◌/◌, ◌%◌, ◌^◌, ◌≤◌, ◌<◌}
-use native.Mathlib.Nat.{zero-mul, suc-mul, add-zero, zero-add, add-suc, suc-add, mod-lt}
+use mathlib.Core.Path.{◌≡◌, refl, sym, ap, ap₂, ◌∙◌}
+use mathlib.Core.List.{[], ◌∷◌, ◌++◌}
+use Prim.Native.Nat.{ℕ, zero, suc, ◌+◌, ◌-◌, ◌*◌, ◌^◌, ◌≤◌, ◌<◌}
+use native.Mathlib.Nat.{zero-mul, suc-mul, add-zero, zero-add, add-suc, suc-add}
 use native.Mathlib.Omega.{arith}
-use lib.ListN.{length, take, drop, length-append, length-drop}
-use lib.Pow.{pow_pos}
-use lib.Seq.{take_at, drop_at, take_all, drop-drop, length-take-le}
+use lib.ListN.{length, take, drop, length-append}
+use lib.Seq.{take_at, drop_at, take_all}
 use Rattle.lists.proofs.Parts.{piece_suc, length_part, piece_room, drop_to}
-use Rattle.rules.specs.Places.{Bytes, IsBytes}
-use Rattle.rules.specs.Calls.{Family, Hashes, under, Run}
-use Rattle.rules.specs.Chains.{chains}
-use Rattle.rules.specs.Layers.{chain_bytes, layer_bytes, own_root, layer_seal, layers_seal, tree_at, leaf_at}
-use Rattle.rules.specs.Forest.{tree_bytes, forest_bytes, own_forest, forest_seal}
+use Rattle.rules.specs.Places.{Bytes}
+use Rattle.rules.specs.Calls.{Family, under}
+use Rattle.rules.specs.Layers.{chain_bytes, layer_bytes, layer_seal, layers_seal, tree_at, leaf_at}
+use Rattle.rules.specs.Forest.{tree_bytes, forest_bytes, forest_seal}
 use Rattle.rules.specs.Sets.{Row, Legal}
-use Rattle.rules.specs.Digest.{Pointed, pointed}
-use Rattle.rules.specs.Seal.{plain, frame, digest_of, written, seal_with, part_start, part_length, part, held_value}
+use Rattle.rules.specs.Digest.{Pointed}
+use Rattle.rules.specs.Seal.{plain, frame, written, part_start, part_length, part, held_value}
 use Rattle.rules.proofs.LayerLaws.{layer_seal_long, layers_seal_suc, layers_seal_long}
 use Rattle.rules.proofs.ForestLaws.{forest_seal_long, forest_accepts}
-use Rattle.rules.proofs.DigestLaws.{Inside, points_inside, leaf_at_lt}
+use Rattle.rules.proofs.DigestLaws.{Inside, leaf_at_lt}
 
 -- Two bytes, the context and the message, joined, are the message in its frame.
 pub framed : (context message : Bytes)

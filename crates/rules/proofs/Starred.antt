@@ -1,7 +1,6 @@
 -- Every starred case holds: the table is worked out.
 -- Assumes nothing.
 use mathlib.Core.Path.{refl}
-use mathlib.Core.List.{◌++◌}
 use Rattle.rules.specs.Digits.{value, digits, base2b}
 use Rattle.rules.specs.Places.{words, address}
 use Rattle.rules.specs.Chains.{steps, own_digits, checksum, chain_digits}

@@ -2,14 +2,14 @@
 -- Assumes nothing.
 use mathlib.Core.Path.{◌≡◌, refl, sym, ap, ap₂, ◌∙◌}
 use mathlib.Core.List.{◌++◌}
-use Prim.Native.Nat.{ℕ, zero, suc, ◌+◌, ◌-◌, ◌*◌, ◌/◌, ◌%◌, ◌^◌, ◌≤◌, ◌<◌}
-use native.Mathlib.Nat.{mod-lt, zero-lt-suc, zero-mul, zero-add, add-zero, suc-add, add-suc, div-one, suc-mul}
+use Prim.Native.Nat.{ℕ, zero, suc, ◌+◌, ◌*◌, ◌/◌, ◌%◌, ◌^◌, ◌<◌}
+use native.Mathlib.Nat.{mod-lt, zero-lt-suc, zero-mul, add-zero, div-one}
 use native.Mathlib.Omega.{arith}
-use lib.ListN.{length, take, drop, length-append}
+use lib.ListN.{length, drop, length-append}
 use lib.Seq.{take_at, drop_at}
 use Rattle.lists.proofs.Numbers.{half_shift}
 use Rattle.rules.specs.Places.{Bytes, IsBytes, Place, address}
-use Rattle.rules.specs.Calls.{H, Hashes, Run}
+use Rattle.rules.specs.Calls.{H, Hashes}
 use Rattle.rules.specs.Trees.{Tree, join, sibling, node, path, climb}
 
 -- ---- The two children of a node

@@ -2,7 +2,7 @@
 -- Assumes nothing.
 use Rattle.std.specs.Prelude.{◌≡◌, ℕ, zero, suc, ◌-◌, length, drop}
 use Rattle.rules.specs.Places.{Bytes}
-use Rattle.rules.specs.Calls.{Family, Hashes, under, Run, return, ◌>>=◌}
+use Rattle.rules.specs.Calls.{Family, Hashes, under, Run, ◌>>=◌}
 use Rattle.rules.specs.Layers.{tree_at, leaf_at, layer_root, layers_root}
 use Rattle.rules.specs.Forest.{forest_root}
 use Rattle.rules.specs.Sets.{Row}

@@ -1,7 +1,7 @@
 -- The sets: rows of parameters, what is legal of a row, the one table where the sets' numbers stand (FIPS 205, table
 -- 2), and its test.
 -- Assumes nothing.
-use Rattle.std.specs.Prelude.{◌≡◌, Bool, true, false, ◌&&◌, cond, List, [], ◌∷◌, ◌++◌, ℕ, ◌+◌, ◌-◌, ◌*◌, ◌/◌, ◌<◌, ltb, eqb}
+use Rattle.std.specs.Prelude.{◌≡◌, Bool, true, ◌&&◌, cond, List, [], ◌∷◌, ℕ, ◌+◌, ◌-◌, ◌*◌, ◌/◌, ◌<◌, ltb, eqb}
 use Rattle.std.proofs.Math.Option.{Option, some, none}
 use Rattle.rules.specs.Chains.{chains, checksum_digits}
 

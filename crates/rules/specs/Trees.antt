@@ -1,7 +1,7 @@
 -- A hash tree over a leaf rule, a path through it, and the root that a path leads to (FIPS 205, sections 6.1 and 8).
 -- Layers and forest share it: algorithms 9 and 15, 10 and 16, 11 and 17 differ only in leaf rule and places.
 -- Assumes nothing.
-use Rattle.std.specs.Prelude.{List, [], ◌++◌, ℕ, zero, suc, ◌+◌, ◌-◌, ◌*◌, ◌/◌, ◌%◌, take, drop}
+use Rattle.std.specs.Prelude.{[], ◌++◌, ℕ, zero, suc, ◌+◌, ◌-◌, ◌*◌, ◌/◌, ◌%◌, take, drop}
 use Rattle.rules.specs.Places.{Bytes, Place}
 use Rattle.rules.specs.Calls.{H, Hashes, Run, return, ◌>>=◌, ask}
 

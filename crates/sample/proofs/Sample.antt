@@ -3,9 +3,9 @@
 -- Assumes nothing.
 use mathlib.Core.Path.{◌≡◌, refl}
 use mathlib.Core.List.{List, [], ◌∷◌, ◌++◌}
-use Prim.Native.Nat.{ℕ, zero, suc, ◌+◌, ◌-◌, ◌*◌, ◌/◌, ◌%◌, ◌^◌}
-use lib.ListN.{length, take, drop, replicate}
-use Rattle.rules.specs.Digits.{value, digits, to_byte, to_int, base2b}
+use Prim.Native.Nat.{ℕ, ◌+◌, ◌*◌, ◌%◌}
+use lib.ListN.{length, replicate}
+use Rattle.rules.specs.Digits.{value, digits, to_byte, base2b}
 use Rattle.rules.specs.Places.{Bytes, IsBytes, words, address}
 use Rattle.rules.specs.Calls.{F, H, T, PRF, Kind, of, randomizer, digest, Call, address_of, Family, Run}
 use Rattle.rules.specs.Chains.{steps, own_digits, checksum, chain_digits, chain, ends, leaf, shown, walk, leaf_from}
@@ -14,7 +14,7 @@ use Rattle.rules.specs.Layers.{chain_bytes, layer_bytes, own_root, layer_seal, l
 use Rattle.rules.specs.Forest.{tree_bytes, forest_bytes, forest_leaf, forest_seal, forest_walk, forest_root}
 use Rattle.rules.specs.Sets.{Row, row}
 use Rattle.rules.specs.Digest.{last_bits, pointed}
-use Rattle.rules.specs.Keys.{piece, key_root, public_key, secret_key}
+use Rattle.rules.specs.Keys.{key_root, public_key, secret_key}
 use Rattle.rules.specs.Seal.{plain, frame, mixed_in, randomizer_of, digest_of, written, seal_with, seal_of, part_start, part_length, part}
 use Rattle.rules.specs.Check.{layers_part, root_at, checked_root}
 use Rattle.counts.specs.Counts.{is, count}

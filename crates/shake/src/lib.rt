@@ -2,6 +2,7 @@
 // pieces, finish once, squeeze pieces. Each function returns the place that the next one takes. Callers go by these
 // contracts and the laws of proofs/Laws.antt.
 #![tactic(auto)]
+
 ghost use Rattle.std.specs.Prelude.{◌≡◌, ◌++◌, length};
 ghost use Rattle.shake.specs.Shake.{rate256, shake256};
 ghost use Rattle.sponge.specs.Stream.{sponge, feed, finish as finished, draw, drawn};

@@ -1,6 +1,7 @@
 // The sponge of an extendable-output function over any rate of whole lanes gives bytes out, from where the bytes that
 // went in ended. Whole lanes come out where the place is a lane's first.
 #![tactic(auto)]
+
 ghost use Rattle.std.specs.Prelude.{◌≡◌, ◌++◌, ◌+◌, ◌%◌, ◌≤◌, ◌<◌, length, take};
 ghost use Rattle.sponge.specs.Sponge.{digits};
 ghost use Rattle.sponge.specs.Stream.{Rate, sponge, draw, drawn};

@@ -1,6 +1,5 @@
 -- `finish` ends the message: the suffix and the padding's two ones are two bytes added to the last block.
 -- Assumes nothing.
-use borrow.Author.Rules.{rules}
 use Rattle.sponge.specs.Stream.{close, finish}
 use Rattle.absorbing.proofs.finish.Goals as goal
 

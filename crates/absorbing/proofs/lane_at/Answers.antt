@@ -2,10 +2,9 @@
 -- room for one more.
 -- Assumes nothing.
 use mathlib.Core.Path.{◌≡◌, refl, sym, ap₂, ◌∙◌}
-use Prim.Native.Nat.{ℕ, ◌+◌, ◌-◌, ◌*◌, ◌^◌, ◌≤◌, ◌<◌}
+use Prim.Native.Nat.{ℕ, ◌+◌, ◌-◌, ◌*◌, ◌^◌, ◌<◌}
 use native.Mathlib.Omega.{arith}
 use lib.ListN.{take, drop}
-use borrow.Author.Rules.{rules}
 use Rattle.lists.specs.Below.{Below}
 use Rattle.sponge.specs.Sponge.{number}
 use Rattle.sponge.proofs.Lanes.{number_room, number_turn}
@@ -19,18 +18,18 @@ pub overflow_mul-w : goal.overflow_mul-w
 overflow_mul-w c =
     let room : c.loop-k.w < 2 ^ 56 =
     let l = c.loop-k in
-        let a = c.args in
-        let b : Below 256 a.m.now = λ j. (c.shared_slice_known-1.given j).fits in
-        rw l.invariant.1 (number_room a.m.now b a.i l.k (omega arith)) in
+    let a = c.args in
+    let b : Below 256 a.m.now = λ j. (c.shared_slice_known-1.given j).fits in
+    rw l.invariant.1 (number_room a.m.now b a.i l.k (omega arith)) in
     omega (arith, room)
 
 pub overflow_add-w : goal.overflow_add-w
 overflow_add-w c =
     let room : c.loop-k.w < 2 ^ 56 =
     let l = c.loop-k in
-        let a = c.args in
-        let b : Below 256 a.m.now = λ j. (c.shared_slice_known-1.given j).fits in
-        rw l.invariant.1 (number_room a.m.now b a.i l.k (omega arith)) in
+    let a = c.args in
+    let b : Below 256 a.m.now = λ j. (c.shared_slice_known-1.given j).fits in
+    rw l.invariant.1 (number_room a.m.now b a.i l.k (omega arith)) in
     omega (arith, room)
 
 pub loop-k-preserved : goal.loop-k-preserved

@@ -1,14 +1,10 @@
 -- `lane_at` is a lane of eight bytes, from the highest down: the value so far is that of the bytes passed, and there is
 -- room for one more.
 -- Assumes nothing.
-use mathlib.Core.Path.{◌≡◌, refl, sym, ap₂, ◌∙◌}
-use Prim.Native.Nat.{ℕ, ◌+◌, ◌-◌, ◌*◌, ◌^◌, ◌≤◌, ◌<◌}
-use native.Mathlib.Omega.{arith}
+use mathlib.Core.Path.{◌≡◌}
+use Prim.Native.Nat.{◌+◌, ◌-◌, ◌≤◌}
 use lib.ListN.{take, drop}
-use borrow.Author.Rules.{rules}
-use Rattle.lists.specs.Below.{Below}
 use Rattle.sponge.specs.Sponge.{number}
-use Rattle.sponge.proofs.Lanes.{number_room, number_turn}
 use Rattle.absorbing.proofs.lane_at.Given as goal
 
 abbrev pub invariant-loop-k : goal.invariant-loop-k

@@ -2,7 +2,6 @@
 -- Assumes nothing.
 use Prim.Native.Nat.{◌*◌, ◌%◌}
 use native.Mathlib.Omega.{arith}
-use borrow.Author.Rules.{rules}
 use Rattle.sponge.specs.Stream.{mixed}
 use Rattle.sponge.proofs.Lanes.{shifted}
 use Rattle.absorbing.proofs.mix.Goals as goal

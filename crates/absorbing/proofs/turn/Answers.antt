@@ -2,7 +2,6 @@
 -- Assumes nothing.
 use mathlib.Core.Path.{sym}
 use native.Mathlib.Omega.{arith}
-use borrow.Author.Rules.{rules}
 use Rattle.sponge.specs.Stream.{sponge}
 use Rattle.sponge.proofs.Stream.{turn_yes, turn_no}
 use Rattle.absorbing.proofs.turn.Goals as goal
@@ -10,7 +9,7 @@ use Rattle.absorbing.proofs.turn.Goals as goal
 pub returns-then-at-rate : goal.returns-then-at-rate
 returns-then-at-rate c =
     let a = c.args in
-     record {
+    record {
       result_after = rw c.permute.ensures (sym (turn_yes a.rate (sponge a.s.now a.at) (omega arith)));
       upper_bound = omega arith;
     }
@@ -18,7 +17,7 @@ returns-then-at-rate c =
 pub returns : goal.returns
 returns c =
     let a = c.args in
-     record {
+    record {
       result_after = sym (turn_no a.rate (sponge a.s.now a.at) (omega arith));
       upper_bound = omega arith;
     }

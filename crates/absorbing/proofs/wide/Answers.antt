@@ -2,7 +2,6 @@
 -- Assumes nothing.
 use mathlib.Core.Path.{refl}
 use native.Mathlib.Omega.{arith}
-use borrow.Author.Rules.{rules}
 use Rattle.absorbing.proofs.wide.Goals as goal
 
 pub overflow_cast-result : goal.overflow_cast-result

@@ -1,6 +1,5 @@
 -- `address_at` gives the address of its place: `address_of` refuses no type below 7.
 -- Assumes nothing.
-use borrow.Author.Rules.{rules}
 use Rattle.addresses.proofs.AddressLaws.{made_is, never_refused}
 use Rattle.addresses.proofs.address_at.Goals as goal
 

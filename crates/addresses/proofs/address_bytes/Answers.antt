@@ -1,7 +1,6 @@
 -- `address_bytes` writes each word's four bytes, most significant first, and the eight bytes of a tree number below
 -- four zeros.
 -- Assumes nothing.
-use borrow.Author.Rules.{rules}
 use Rattle.rules.specs.Places.{words}
 use Rattle.addresses.proofs.AddressLaws.{word_bytes, tree_bytes_lem}
 use Rattle.addresses.proofs.address_bytes.Goals as goal

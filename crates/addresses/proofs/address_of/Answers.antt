@@ -1,6 +1,6 @@
 -- `address_of` answers as the rules' places do: at each of the seven types by its clause, and above them with none.
 -- Assumes nothing.
-use mathlib.Core.Path.{◌≡◌, sym, ◌∙◌}
+use mathlib.Core.Path.{sym, ◌∙◌}
 use borrow.Author.Rules.{rules}
 use Rattle.rules.specs.Places.{address}
 use Rattle.addresses.specs.Addresses.{address_at}

@@ -1,7 +1,6 @@
 -- `number_of` is the paper's number in each of its seven cases.
 -- Assumes nothing.
 use mathlib.Core.Path.{sym, ap}
-use borrow.Author.Rules.{rules}
 use Rattle.answers.specs.Answers.{number}
 use Rattle.answers.proofs.number_of.Goals as goal
 

@@ -2,13 +2,12 @@
 -- Assumes nothing.
 use mathlib.Core.Bool.{false}
 use borrow.Author.Tests.{eq-eqb, ne_eqb}
-use mathlib.Core.Path.{◌≡◌, refl, ap, sym, ◌∙◌}
-use Prim.Native.Nat.{ℕ, ◌≤◌, ◌<◌, ◌-◌, ◌+◌}
+use mathlib.Core.Path.{◌≡◌, sym, ◌∙◌}
+use Prim.Native.Nat.{◌+◌}
 use native.Mathlib.Omega.{arith}
-use lib.ListN.{length, drop}
+use lib.ListN.{drop}
 use Rattle.answers.specs.Tests.{same}
 use Rattle.answers.proofs.StringLaws.{same_long, same_turn, same_end}
-use borrow.Author.Rules.{rules}
 use Rattle.answers.proofs.same.Goals as goal
 
 pub returns-then-a-b : goal.returns-then-a-b

@@ -1,14 +1,9 @@
 -- `same` compares byte by byte: what is left to compare from each place on decides as the whole does.
 -- Assumes nothing.
-use mathlib.Core.Bool.{false}
-use borrow.Author.Tests.{eq-eqb, ne_eqb}
-use mathlib.Core.Path.{◌≡◌, refl, ap, sym, ◌∙◌}
-use Prim.Native.Nat.{ℕ, ◌≤◌, ◌<◌, ◌-◌, ◌+◌}
-use native.Mathlib.Omega.{arith}
+use mathlib.Core.Path.{◌≡◌}
+use Prim.Native.Nat.{◌≤◌, ◌-◌}
 use lib.ListN.{length, drop}
 use Rattle.answers.specs.Tests.{same}
-use Rattle.answers.proofs.StringLaws.{same_long, same_turn, same_end}
-use borrow.Author.Rules.{rules}
 use Rattle.answers.proofs.same.Given as goal
 
 abbrev pub invariant-loop-i : goal.invariant-loop-i

@@ -1,9 +1,8 @@
 -- `call` is SHAKE256 of public seed, address and input: they are fed one after the other.
 -- Assumes nothing.
-use mathlib.Core.Path.{◌≡◌, ap, ◌∙◌}
+use mathlib.Core.Path.{ap, ◌∙◌}
 use mathlib.Core.List.{◌++◌}
 use lib.ListN.{length}
-use borrow.Author.Rules.{rules}
 use Rattle.shake.specs.Shake.{shake256}
 use Rattle.calls.proofs.HashLaws.{three_joined}
 use Rattle.calls.proofs.call.Goals as goal

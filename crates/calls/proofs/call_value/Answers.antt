@@ -1,7 +1,6 @@
 -- `call_value` is `call` on the front of 32 bytes.
 -- Assumes nothing.
 use mathlib.Core.List.{◌++◌}
-use borrow.Author.Rules.{rules}
 use Rattle.shake.specs.Shake.{shake256}
 use Rattle.lists.proofs.Parts.{zeros_part, front_part}
 use Rattle.addresses.specs.Addresses.{bytes_of}

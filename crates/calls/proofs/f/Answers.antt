@@ -1,6 +1,5 @@
 -- `f` is F, by `call_value`.
 -- Assumes nothing.
-use borrow.Author.Rules.{rules}
 use Rattle.calls.specs.Hashes.{family}
 use Rattle.calls.proofs.f.Goals as goal
 

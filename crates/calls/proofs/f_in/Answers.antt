@@ -1,8 +1,7 @@
 -- `f_in` is F of public seed, address and input: they are fed one after the other.
 -- Assumes nothing.
-use mathlib.Core.Path.{◌≡◌, ap₂, ◌∙◌}
+use mathlib.Core.Path.{ap₂, ◌∙◌}
 use mathlib.Core.List.{◌++◌}
-use borrow.Author.Rules.{rules}
 use Rattle.shake.specs.Shake.{shake256}
 use Rattle.calls.specs.Hashes.{family}
 use Rattle.calls.proofs.HashLaws.{three_joined}

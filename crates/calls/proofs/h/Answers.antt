@@ -1,8 +1,7 @@
 -- `h` is H of two joined values: public seed and address are fed, then both.
 -- Assumes nothing.
-use mathlib.Core.Path.{◌≡◌, ap, ◌∙◌}
+use mathlib.Core.Path.{ap, ◌∙◌}
 use mathlib.Core.List.{◌++◌}
-use borrow.Author.Rules.{rules}
 use Rattle.shake.specs.Shake.{shake256}
 use Rattle.lists.proofs.Parts.{zeros_part}
 use Rattle.calls.specs.Hashes.{family}

@@ -1,8 +1,7 @@
 -- `secret_in` is a secret value, by `call`.
 -- Assumes nothing.
-use mathlib.Core.Path.{◌≡◌, ap, ◌∙◌}
+use mathlib.Core.Path.{ap, ◌∙◌}
 use mathlib.Core.List.{◌++◌}
-use borrow.Author.Rules.{rules}
 use Rattle.shake.specs.Shake.{shake256}
 use Rattle.addresses.specs.Addresses.{bytes_of}
 use Rattle.calls.specs.Hashes.{family}

@@ -1,6 +1,5 @@
 -- `t` is T, by `call_value`.
 -- Assumes nothing.
-use borrow.Author.Rules.{rules}
 use Rattle.calls.specs.Hashes.{family}
 use Rattle.calls.proofs.t.Goals as goal
 

@@ -1,13 +1,10 @@
 -- `chain_in` takes the chain's steps one by one: what is left from where it is leads to where the whole leads.
 -- Assumes nothing.
-use mathlib.Core.Path.{◌≡◌, refl, sym, ap, ◌∙◌}
-use Prim.Native.Nat.{◌+◌, ◌-◌, ◌≤◌}
+use mathlib.Core.Path.{◌≡◌, refl, sym, ◌∙◌}
+use Prim.Native.Nat.{◌+◌}
 use native.Mathlib.Numerals.{unary_clauses}
 use native.Mathlib.Omega.{arith}
-use lib.ListN.{length}
-use borrow.Author.Rules.{rules}
 use Rattle.rules.specs.Places.{chain_step}
-use Rattle.rules.specs.Chains.{chain}
 use Rattle.calls.specs.Hashes.{hashes_of}
 use Rattle.chains.proofs.Loops.{chain_turn, chain_end, chain_calls}
 use Rattle.chains.proofs.chain_in.Goals as goal
@@ -35,7 +32,7 @@ returns c =
     let a = c.args in
     let w = hashes_of a.kit a.seed.now in
     let place = chain_step a.spot.layer a.spot.tree a.spot.pair a.c in
-    let end : l.k ≡ a.steps = omega arith in  record {
+    let end : l.k ≡ a.steps = omega arith in record {
       io_after = sym (chain_end w place (a.start + l.k) a.steps l.k l.io (omega arith)) ∙ l.invariant.2;
       value = end ∙ chain_calls w place a.io.now a.start a.steps;
     }

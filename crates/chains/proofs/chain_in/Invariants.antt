@@ -1,15 +1,11 @@
 -- `chain_in` takes the chain's steps one by one: what is left from where it is leads to where the whole leads.
 -- Assumes nothing.
-use mathlib.Core.Path.{◌≡◌, refl, sym, ap, ◌∙◌}
+use mathlib.Core.Path.{◌≡◌}
 use Prim.Native.Nat.{◌+◌, ◌-◌, ◌≤◌}
-use native.Mathlib.Numerals.{unary_clauses}
-use native.Mathlib.Omega.{arith}
 use lib.ListN.{length}
-use borrow.Author.Rules.{rules}
 use Rattle.rules.specs.Places.{chain_step}
 use Rattle.rules.specs.Chains.{chain}
 use Rattle.calls.specs.Hashes.{hashes_of}
-use Rattle.chains.proofs.Loops.{chain_turn, chain_end, chain_calls}
 use Rattle.chains.proofs.chain_in.Given as goal
 
 abbrev pub invariant-loop-k : goal.invariant-loop-k

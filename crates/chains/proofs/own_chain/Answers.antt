@@ -1,8 +1,7 @@
 -- `own_chain` makes the secret value and takes the chain's steps from it.
 -- Assumes nothing.
-use mathlib.Core.Path.{◌≡◌, ◌∙◌}
+use mathlib.Core.Path.{◌∙◌}
 use native.Mathlib.Omega.{arith}
-use borrow.Author.Rules.{rules}
 use Rattle.calls.specs.Hashes.{hashes_of}
 use Rattle.chains.proofs.Loops.{own_made}
 use Rattle.chains.proofs.own_chain.Goals as goal

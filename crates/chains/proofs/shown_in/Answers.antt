@@ -1,17 +1,12 @@
 -- `shown_in` writes the chains' values one after the other: what is written and what is left to show are the whole.
 -- Assumes nothing.
-use mathlib.Core.Path.{◌≡◌, refl, sym, ap, ◌∙◌}
-use mathlib.Core.List.{◌++◌}
-use Prim.Native.Nat.{◌+◌, ◌-◌, ◌*◌, ◌≤◌}
-use native.Mathlib.Numerals.{unary_clauses}
-use native.Mathlib.Nat.{zero-mul}
+use mathlib.Core.Path.{◌≡◌, refl, ap, ◌∙◌}
+use Prim.Native.Nat.{◌+◌, ◌*◌, ◌≤◌}
 use native.Mathlib.Omega.{arith}
-use lib.ListN.{length, take, drop, get_or}
+use lib.ListN.{length, take}
 use lib.Seq.{take_all}
-use borrow.Author.Rules.{rules}
 use Rattle.lists.proofs.Parts.{piece_room}
 use Rattle.lists.proofs.Filling.{part_written, part_length_lem, lent_length}
-use Rattle.rules.specs.Chains.{shown}
 use Rattle.calls.specs.Hashes.{hashes_of}
 use Rattle.chains.proofs.Loops.{shown_turn, shown_end}
 use Rattle.chains.proofs.shown_in.Goals as goal
@@ -25,24 +20,24 @@ overflow_cast-i c = omega (arith, c.requires.1)
 pub own_chain-requires : goal.own_chain-requires
 own_chain-requires c =
     let room : c.loop-i.at + c.args.kit.n
-        ≤ length c.loop-i.out =
+    ≤ length c.loop-i.out =
     omega (
-          arith,
-          piece_room c.loop-i.i (length c.args.ds.now) c.args.kit.n c.loop-i-test.true,
-          c.requires.0,
-        ) in
+      arith,
+      piece_room c.loop-i.i (length c.args.ds.now) c.args.kit.n c.loop-i-test.true,
+      c.requires.0,
+    ) in
     let l = c.loop-i in
     (lent_length l.at c.args.kit.n l.out room, c.requires.2 l.i)
 
 pub loop-i-preserved : goal.loop-i-preserved
 loop-i-preserved c =
     let room : c.loop-i.at + c.args.kit.n
-        ≤ length c.loop-i.out =
+    ≤ length c.loop-i.out =
     omega (
-          arith,
-          piece_room c.loop-i.i (length c.args.ds.now) c.args.kit.n c.loop-i-test.true,
-          c.requires.0,
-        ) in
+      arith,
+      piece_room c.loop-i.i (length c.args.ds.now) c.args.kit.n c.loop-i-test.true,
+      c.requires.0,
+    ) in
     let l = c.loop-i in
     let a = c.args in
     let ys = c.own_chain.new.out in
@@ -69,34 +64,34 @@ returns c =
 pub overflow_add-at : goal.overflow_add-at
 overflow_add-at c =
     let room : c.loop-i.at + c.args.kit.n
-        ≤ length c.loop-i.out =
+    ≤ length c.loop-i.out =
     omega (
-          arith,
-          piece_room c.loop-i.i (length c.args.ds.now) c.args.kit.n c.loop-i-test.true,
-          c.requires.0,
-        ) in
+      arith,
+      piece_room c.loop-i.i (length c.args.ds.now) c.args.kit.n c.loop-i-test.true,
+      c.requires.0,
+    ) in
     omega (arith, room)
 
 pub slice_bounds-own_chain-end : goal.slice_bounds-own_chain-end
 slice_bounds-own_chain-end c =
     let room : c.loop-i.at + c.args.kit.n
-        ≤ length c.loop-i.out =
+    ≤ length c.loop-i.out =
     omega (
-          arith,
-          piece_room c.loop-i.i (length c.args.ds.now) c.args.kit.n c.loop-i-test.true,
-          c.requires.0,
-        ) in
+      arith,
+      piece_room c.loop-i.i (length c.args.ds.now) c.args.kit.n c.loop-i-test.true,
+      c.requires.0,
+    ) in
     omega (arith, room)
 
 pub overflow_add-at-in-loop-i : goal.overflow_add-at-in-loop-i
 overflow_add-at-in-loop-i c =
     let room : c.loop-i.at + c.args.kit.n
-        ≤ length c.loop-i.out =
+    ≤ length c.loop-i.out =
     omega (
-          arith,
-          piece_room c.loop-i.i (length c.args.ds.now) c.args.kit.n c.loop-i-test.true,
-          c.requires.0,
-        ) in
+      arith,
+      piece_room c.loop-i.i (length c.args.ds.now) c.args.kit.n c.loop-i-test.true,
+      c.requires.0,
+    ) in
     omega (arith, room)
 
 pub shape_of-out : goal.shape_of-out

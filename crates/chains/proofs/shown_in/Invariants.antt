@@ -1,19 +1,11 @@
 -- `shown_in` writes the chains' values one after the other: what is written and what is left to show are the whole.
 -- Assumes nothing.
-use mathlib.Core.Path.{◌≡◌, refl, sym, ap, ◌∙◌}
+use mathlib.Core.Path.{◌≡◌}
 use mathlib.Core.List.{◌++◌}
-use Prim.Native.Nat.{◌+◌, ◌-◌, ◌*◌, ◌≤◌}
-use native.Mathlib.Numerals.{unary_clauses}
-use native.Mathlib.Nat.{zero-mul}
-use native.Mathlib.Omega.{arith}
-use lib.ListN.{length, take, drop, get_or}
-use lib.Seq.{take_all}
-use borrow.Author.Rules.{rules}
-use Rattle.lists.proofs.Parts.{piece_room}
-use Rattle.lists.proofs.Filling.{part_written, part_length_lem, lent_length}
+use Prim.Native.Nat.{◌-◌, ◌*◌, ◌≤◌}
+use lib.ListN.{length, take, drop}
 use Rattle.rules.specs.Chains.{shown}
 use Rattle.calls.specs.Hashes.{hashes_of}
-use Rattle.chains.proofs.Loops.{shown_turn, shown_end}
 use Rattle.chains.proofs.shown_in.Given as goal
 
 abbrev pub invariant-loop-i : goal.invariant-loop-i

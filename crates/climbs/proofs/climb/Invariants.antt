@@ -1,16 +1,11 @@
 -- `climb` comes to the root of the rules: what is left to climb from each height on comes to the same as the whole.
 -- Assumes nothing.
-use mathlib.Core.Path.{◌≡◌, sym, ◌∙◌}
-use Prim.Native.Nat.{◌+◌, ◌-◌, ◌*◌, ◌≤◌}
-use native.Mathlib.Numerals.{unary_clauses}
-use native.Mathlib.Omega.{arith}
-use borrow.Author.Rules.{rules}
-use lib.ListN.{length, take, drop}
-use Rattle.lists.proofs.Parts.{piece_room}
+use mathlib.Core.Path.{◌≡◌}
+use Prim.Native.Nat.{◌-◌, ◌*◌, ◌≤◌}
+use lib.ListN.{take, drop}
 use Rattle.rules.specs.Trees.{climb}
 use Rattle.calls.specs.Hashes.{hashes_of}
 use Rattle.climbs.specs.Groves.{place_of}
-use Rattle.climbs.proofs.ClimbLaws.{climb_turn, climb_end}
 use Rattle.climbs.proofs.climb.Given as goal
 
 abbrev pub invariant-loop-z : goal.invariant-loop-z

@@ -1,7 +1,6 @@
 -- `digits::digit` meets its contract: the bits cut out of the bytes that hold them are those of the whole number.
 -- Assumes nothing.
 use native.Mathlib.Omega.{arith}
-use borrow.Author.Rules.{rules}
 use Rattle.lists.specs.Below.{Below}
 use Rattle.digits.proofs.Laws.{digit_modulus, digit_fits, digit_read}
 use Rattle.digits.proofs.digit.Goals as goal

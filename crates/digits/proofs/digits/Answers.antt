@@ -1,11 +1,10 @@
 -- `digits::digits` meets its contract: the digits written so far are the first of base_2b, and the next begins where
 -- the loop stands.
 -- Assumes nothing.
-use mathlib.Core.Path.{◌≡◌, ◌∙◌}
-use Prim.Native.Nat.{◌+◌, ◌-◌, ◌*◌, ◌≤◌, ◌<◌}
+use mathlib.Core.Path.{◌∙◌}
+use Prim.Native.Nat.{◌+◌, ◌*◌, ◌≤◌, ◌<◌}
 use native.Mathlib.Omega.{arith}
-use lib.ListN.{length, take, length-set}
-use borrow.Author.Rules.{rules}
+use lib.ListN.{length, length-set}
 use Rattle.lists.proofs.Filling.{rest_read, fill_turn, fill_end}
 use Rattle.rules.specs.Digits.{base2b}
 use Rattle.rules.proofs.DigitLaws.{length-base2b}
@@ -16,32 +15,32 @@ pub slice_bounds-digit-count : goal.slice_bounds-digit-count
 slice_bounds-digit-count c =
     let ends : let l = c.loop-j in 8 * l.at + (l.skip + c.args.width) ≤ 8 * length c.args.x.now =
     let l = c.loop-j in
-        place_room c.args.width l.j l.at l.skip l.invariant.3 c.args.x.now (length c.args.out.now)
-        c.requires.1 (omega arith) in
+    place_room c.args.width l.j l.at l.skip l.invariant.3 c.args.x.now (length c.args.out.now)
+    c.requires.1 (omega arith) in
     omega (arith, ends)
 
 pub slice_bounds-digit-start : goal.slice_bounds-digit-start
 slice_bounds-digit-start c =
     let ends : let l = c.loop-j in 8 * l.at + (l.skip + c.args.width) ≤ 8 * length c.args.x.now =
     let l = c.loop-j in
-        place_room c.args.width l.j l.at l.skip l.invariant.3 c.args.x.now (length c.args.out.now)
-        c.requires.1 (omega arith) in
+    place_room c.args.width l.j l.at l.skip l.invariant.3 c.args.x.now (length c.args.out.now)
+    c.requires.1 (omega arith) in
     omega (arith, ends)
 
 pub digit-requires : goal.digit-requires
 digit-requires c =
     let ends : let l = c.loop-j in 8 * l.at + (l.skip + c.args.width) ≤ 8 * length c.args.x.now =
     let l = c.loop-j in
-        place_room c.args.width l.j l.at l.skip l.invariant.3 c.args.x.now (length c.args.out.now)
-        c.requires.1 (omega arith) in
+    place_room c.args.width l.j l.at l.skip l.invariant.3 c.args.x.now (length c.args.out.now)
+    c.requires.1 (omega arith) in
     omega (arith, ends)
 
 pub overflow_add-at-in-loop-j : goal.overflow_add-at-in-loop-j
 overflow_add-at-in-loop-j c =
     let ends : let l = c.loop-j in 8 * l.at + (l.skip + c.args.width) ≤ 8 * length c.args.x.now =
     let l = c.loop-j in
-        place_room c.args.width l.j l.at l.skip l.invariant.3 c.args.x.now (length c.args.out.now)
-        c.requires.1 (omega arith) in
+    place_room c.args.width l.j l.at l.skip l.invariant.3 c.args.x.now (length c.args.out.now)
+    c.requires.1 (omega arith) in
     omega (arith, ends)
 
 pub loop-j-preserved : goal.loop-j-preserved

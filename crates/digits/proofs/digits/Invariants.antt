@@ -1,15 +1,10 @@
 -- `digits::digits` meets its contract: the digits written so far are the first of base_2b, and the next begins where
 -- the loop stands.
 -- Assumes nothing.
-use mathlib.Core.Path.{◌≡◌, ◌∙◌}
+use mathlib.Core.Path.{◌≡◌}
 use Prim.Native.Nat.{◌+◌, ◌-◌, ◌*◌, ◌≤◌, ◌<◌}
-use native.Mathlib.Omega.{arith}
-use lib.ListN.{length, take, length-set}
-use borrow.Author.Rules.{rules}
-use Rattle.lists.proofs.Filling.{rest_read, fill_turn, fill_end}
+use lib.ListN.{length, take}
 use Rattle.rules.specs.Digits.{base2b}
-use Rattle.rules.proofs.DigitLaws.{length-base2b}
-use Rattle.digits.proofs.Laws.{place_turn, place_room, place_digit}
 use Rattle.digits.proofs.digits.Given as goal
 
 abbrev pub invariant-loop-j : goal.invariant-loop-j

@@ -1,11 +1,6 @@
 -- `digits::steps_left` meets its contract: the sum, and the steps left of the digits to come, are those of all digits.
 -- Assumes nothing.
-use mathlib.Core.Path.{◌≡◌}
-use Prim.Native.Nat.{◌+◌, ◌-◌, ◌*◌, ◌≤◌}
 use native.Mathlib.Omega.{arith}
-use lib.ListN.{length, drop}
-use borrow.Author.Rules.{rules}
-use Rattle.rules.specs.Chains.{steps}
 use Rattle.digits.proofs.Laws.{steps_turn, steps_end}
 use Rattle.digits.proofs.steps_left.Goals as goal
 

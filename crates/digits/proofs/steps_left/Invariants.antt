@@ -2,11 +2,8 @@
 -- Assumes nothing.
 use mathlib.Core.Path.{◌≡◌}
 use Prim.Native.Nat.{◌+◌, ◌-◌, ◌*◌, ◌≤◌}
-use native.Mathlib.Omega.{arith}
 use lib.ListN.{length, drop}
-use borrow.Author.Rules.{rules}
 use Rattle.rules.specs.Chains.{steps}
-use Rattle.digits.proofs.Laws.{steps_turn, steps_end}
 use Rattle.digits.proofs.steps_left.Given as goal
 
 abbrev pub invariant-loop-i : goal.invariant-loop-i

@@ -1,11 +1,10 @@
 -- `digits::to_int` meets its contract: the total is the number of the bytes read so far.
 -- Assumes nothing.
-use mathlib.Core.Path.{◌≡◌, refl, ap, ◌∙◌}
-use Prim.Native.Nat.{◌+◌, ◌-◌, ◌*◌, ◌^◌, ◌≤◌, ◌<◌}
+use mathlib.Core.Path.{refl, ap, ◌∙◌}
+use Prim.Native.Nat.{◌+◌, ◌*◌, ◌^◌, ◌<◌}
 use native.Mathlib.Omega.{arith}
-use lib.ListN.{length, take, get_or}
+use lib.ListN.{get_or}
 use lib.Seq.{take_all}
-use borrow.Author.Rules.{rules}
 use Rattle.lists.specs.Below.{Below}
 use Rattle.rules.specs.Digits.{value, to_int}
 use Rattle.digits.proofs.Laws.{number_turn, number_fits}
@@ -19,16 +18,16 @@ pub overflow_mul-total : goal.overflow_mul-total
 overflow_mul-total c =
     let fits : c.loop-i.total * 256 + get_or c.args.x.now c.loop-i.i 0 < 2 ^ 64 =
     let l = c.loop-i in
-        let b : Below 256 c.args.x.now = λ i. (c.shared_slice_known-1.given i).fits in
-        rw l.invariant.1 (number_fits c.args.x.now l.i b c.requires c.loop-i-test.true) in
+    let b : Below 256 c.args.x.now = λ i. (c.shared_slice_known-1.given i).fits in
+    rw l.invariant.1 (number_fits c.args.x.now l.i b c.requires c.loop-i-test.true) in
     omega (arith, fits)
 
 pub overflow_add-total : goal.overflow_add-total
 overflow_add-total c =
     let fits : c.loop-i.total * 256 + get_or c.args.x.now c.loop-i.i 0 < 2 ^ 64 =
     let l = c.loop-i in
-        let b : Below 256 c.args.x.now = λ i. (c.shared_slice_known-1.given i).fits in
-        rw l.invariant.1 (number_fits c.args.x.now l.i b c.requires c.loop-i-test.true) in
+    let b : Below 256 c.args.x.now = λ i. (c.shared_slice_known-1.given i).fits in
+    rw l.invariant.1 (number_fits c.args.x.now l.i b c.requires c.loop-i-test.true) in
     omega (arith, fits)
 
 pub loop-i-preserved : goal.loop-i-preserved

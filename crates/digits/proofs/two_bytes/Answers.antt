@@ -1,6 +1,5 @@
 -- `digits::two_bytes` meets its contract: the two bytes are the last two digits of width eight.
 -- Assumes nothing.
-use borrow.Author.Rules.{rules}
 use native.Mathlib.Nat.{div-one}
 use Rattle.rules.specs.Digits.{digits}
 use Rattle.digits.proofs.two_bytes.Goals as goal

@@ -1,6 +1,5 @@
 -- `effects` is what θ adds to each column, two parities: by the law on plain numbers.
 -- Assumes nothing.
-use borrow.Author.Rules.{rules}
 use Rattle.keccak.proofs.Rounds.{effects_are}
 use Rattle.keccak.proofs.effects.Goals as goal
 

@@ -4,7 +4,6 @@ use mathlib.Core.Path.{◌≡◌}
 use Prim.Native.Nat.{◌%◌}
 use native.Mathlib.Omega.{arith}
 use native.Mathlib.Nat.{zero-add}
-use borrow.Author.Rules.{rules}
 use Rattle.keccak.specs.Keccak.{C, lane}
 use Rattle.keccak.proofs.parity.Goals as goal
 

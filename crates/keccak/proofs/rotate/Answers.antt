@@ -1,6 +1,5 @@
 -- `rotate` is a rotation: a left shift joined with a right shift, and at 0 both are the lane itself.
 -- Assumes nothing.
-use borrow.Author.Rules.{rules}
 use Rattle.keccak.proofs.Rounds.{shift_pair}
 use Rattle.keccak.proofs.rotate.Goals as goal
 

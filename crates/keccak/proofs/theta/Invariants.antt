@@ -1,15 +1,10 @@
 -- `theta` is θ, lane by lane: each store is the next lane of the definition.
 -- Assumes nothing.
-use mathlib.Core.Path.{refl, sym, ap, ap₂, ◌∙◌}
-use Prim.Native.Nat.{ℕ, ◌+◌, ◌-◌, ◌%◌, ◌<◌}
+use Prim.Native.Nat.{ℕ, ◌-◌}
 use mathlib.Core.List.{List}
-use native.Mathlib.Omega.{arith}
-use lib.ListN.{get_or}
 use lib.Bits.{bit_xor}
-use borrow.Author.Rules.{rules}
-use Rattle.keccak.specs.Keccak.{lane, D, θ}
-use Rattle.keccak.proofs.Each.{Filled, filled_start, filled_next, filled_end, get_or-each}
-use Rattle.keccak.proofs.Rounds.{lane_place}
+use Rattle.keccak.specs.Keccak.{lane, D}
+use Rattle.keccak.proofs.Each.{Filled}
 use Rattle.keccak.proofs.theta.Given as goal
 
 -- What θ puts at column x and row y.

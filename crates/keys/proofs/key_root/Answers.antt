@@ -1,7 +1,6 @@
 -- `key_root` is the topmost tree's node at its full height.
 -- Assumes nothing.
 use native.Mathlib.Omega.{arith}
-use borrow.Author.Rules.{rules}
 use Rattle.rows.specs.Rows.{ruled_row}
 use Rattle.rows.proofs.SizeLaws.{layer_leaves}
 use Rattle.keys.proofs.KeyLaws.{root_made}

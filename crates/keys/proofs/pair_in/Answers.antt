@@ -1,7 +1,6 @@
 -- `pair_in` puts the two strings one after the other, and they fill the bytes lent.
 -- Assumes nothing.
 use mathlib.Core.Path.{◌∙◌}
-use borrow.Author.Rules.{rules}
 use Rattle.keys.proofs.KeyLaws.{pair_written}
 use Rattle.keys.proofs.pair_in.Goals as goal
 

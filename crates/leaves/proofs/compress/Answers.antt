@@ -1,8 +1,6 @@
 -- `compress` is T at the place of the chain ends.
 -- Assumes nothing.
-use mathlib.Core.Path.{◌≡◌, ap, ◌∙◌}
-use native.Mathlib.Omega.{arith}
-use borrow.Author.Rules.{rules}
+use mathlib.Core.Path.{ap, ◌∙◌}
 use Rattle.rules.specs.Calls.{T}
 use Rattle.calls.specs.Hashes.{hashes_of}
 use Rattle.leaves.proofs.compress.Goals as goal

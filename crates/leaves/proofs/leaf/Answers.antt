@@ -4,7 +4,6 @@ use mathlib.Core.Path.{sym, ap, ◌∙◌}
 use Prim.Native.Nat.{◌*◌}
 use native.Mathlib.Omega.{arith}
 use lib.ListN.{length, length-replicate}
-use borrow.Author.Rules.{rules}
 use Rattle.lists.proofs.Parts.{same_part, zeros_part}
 use Rattle.lists.proofs.Below.{below_replicate}
 use Rattle.rules.specs.Places.{address, chain_ends}

@@ -1,7 +1,6 @@
 -- `leaf_over` compresses what is shown.
 -- Assumes nothing.
-use mathlib.Core.Path.{◌≡◌, ap, ◌∙◌}
-use borrow.Author.Rules.{rules}
+use mathlib.Core.Path.{ap, ◌∙◌}
 use Rattle.rules.specs.Places.{address, chain_ends}
 use Rattle.rules.specs.Calls.{T}
 use Rattle.calls.specs.Hashes.{hashes_of}

@@ -1,8 +1,7 @@
 -- `digest_in` is the digest: the randomizer, the public seed, the root and the framed message are fed.
 -- Assumes nothing.
-use mathlib.Core.Path.{◌≡◌, ap, ◌∙◌}
+use mathlib.Core.Path.{ap, ◌∙◌}
 use mathlib.Core.List.{◌++◌}
-use borrow.Author.Rules.{rules}
 use Rattle.shake.specs.Shake.{shake256}
 use Rattle.calls.specs.Hashes.{family}
 use Rattle.message_calls.proofs.MessageLaws.{five_joined}

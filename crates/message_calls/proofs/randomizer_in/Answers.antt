@@ -1,8 +1,7 @@
 -- `randomizer_in` is the randomizer: the prf seed, the mixed-in bytes and the framed message are fed.
 -- Assumes nothing.
-use mathlib.Core.Path.{◌≡◌, ap, ◌∙◌}
+use mathlib.Core.Path.{ap, ◌∙◌}
 use mathlib.Core.List.{◌++◌}
-use borrow.Author.Rules.{rules}
 use Rattle.shake.specs.Shake.{shake256}
 use Rattle.calls.specs.Hashes.{family}
 use Rattle.calls.proofs.HashLaws.{four_joined}

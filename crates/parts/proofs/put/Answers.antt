@@ -1,11 +1,9 @@
 -- `put` writes its piece: after i turns the first i bytes of the piece are pasted in.
 -- Assumes nothing.
-use mathlib.Core.Path.{◌≡◌, refl}
-use Prim.Native.Nat.{◌≤◌, ◌-◌}
+use mathlib.Core.Path.{refl}
 use native.Mathlib.Omega.{arith}
-use borrow.Author.Rules.{rules}
-use lib.ListN.{length, length-set}
-use lib.Seq.{paste, paste-zero}
+use lib.ListN.{length-set}
+use lib.Seq.{paste-zero}
 use Rattle.parts.proofs.PutLaws.{put_turn, put_end}
 use Rattle.parts.proofs.put.Goals as goal
 

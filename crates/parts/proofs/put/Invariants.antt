@@ -1,12 +1,9 @@
 -- `put` writes its piece: after i turns the first i bytes of the piece are pasted in.
 -- Assumes nothing.
-use mathlib.Core.Path.{◌≡◌, refl}
+use mathlib.Core.Path.{◌≡◌}
 use Prim.Native.Nat.{◌≤◌, ◌-◌}
-use native.Mathlib.Omega.{arith}
-use borrow.Author.Rules.{rules}
-use lib.ListN.{length, length-set}
-use lib.Seq.{paste, paste-zero}
-use Rattle.parts.proofs.PutLaws.{put_turn, put_end}
+use lib.ListN.{length}
+use lib.Seq.{paste}
 use Rattle.parts.proofs.put.Given as goal
 
 abbrev pub invariant-loop-i : goal.invariant-loop-i

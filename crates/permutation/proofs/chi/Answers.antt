@@ -1,11 +1,10 @@
 -- `chi` is χ, a row a turn: each of the five stores is the next lane of the definition.
 -- Assumes nothing.
-use mathlib.Core.Path.{◌≡◌, refl}
-use Prim.Native.Nat.{◌+◌, ◌-◌, ◌%◌}
+use mathlib.Core.Path.{refl}
+use Prim.Native.Nat.{◌+◌}
 use native.Mathlib.Omega.{arith}
-use borrow.Author.Rules.{rules}
 use Rattle.keccak.specs.Keccak.{χ, inverted}
-use Rattle.keccak.proofs.Each.{Filled, filled_start, filled_end}
+use Rattle.keccak.proofs.Each.{filled_start, filled_end}
 use Rattle.keccak.proofs.Rounds.{chosen, chosen_next}
 use Rattle.permutation.proofs.chi.Goals as goal
 

@@ -1,12 +1,9 @@
 -- `chi` is χ, a row a turn: each of the five stores is the next lane of the definition.
 -- Assumes nothing.
-use mathlib.Core.Path.{◌≡◌, refl}
-use Prim.Native.Nat.{◌+◌, ◌-◌, ◌%◌}
-use native.Mathlib.Omega.{arith}
-use borrow.Author.Rules.{rules}
-use Rattle.keccak.specs.Keccak.{χ, inverted}
-use Rattle.keccak.proofs.Each.{Filled, filled_start, filled_end}
-use Rattle.keccak.proofs.Rounds.{chosen, chosen_next}
+use mathlib.Core.Path.{◌≡◌}
+use Prim.Native.Nat.{◌-◌, ◌%◌}
+use Rattle.keccak.proofs.Each.{Filled}
+use Rattle.keccak.proofs.Rounds.{chosen}
 use Rattle.permutation.proofs.chi.Given as goal
 
 abbrev pub invariant-loop-y : goal.invariant-loop-y

@@ -2,11 +2,10 @@
 -- standard's register gives.
 -- Assumes nothing.
 use mathlib.Core.Path.{◌≡◌, refl, sym, ap, ap₂, ◌∙◌}
-use Prim.Native.Nat.{ℕ, ◌-◌, ◌≤◌}
+use Prim.Native.Nat.{ℕ}
 use mathlib.Core.List.{List}
 use native.Mathlib.Omega.{arith}
 use lib.ListN.{get_or}
-use borrow.Author.Rules.{rules}
 use Rattle.keccak.specs.Constants.{register, rc, constant_bits, constant}
 use Rattle.keccak.specs.Keccak.{each, round, rounds, keccak_f}
 use Rattle.keccak.proofs.Each.{get_or-each}

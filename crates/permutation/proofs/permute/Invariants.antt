@@ -1,16 +1,10 @@
 -- `permute` is all the rounds: after i turns the state is that of the first i, and the table of constants is what the
 -- standard's register gives.
 -- Assumes nothing.
-use mathlib.Core.Path.{◌≡◌, refl, sym, ap, ap₂, ◌∙◌}
-use Prim.Native.Nat.{ℕ, ◌-◌, ◌≤◌}
-use mathlib.Core.List.{List}
-use native.Mathlib.Omega.{arith}
-use lib.ListN.{get_or}
-use borrow.Author.Rules.{rules}
-use Rattle.keccak.specs.Constants.{register, rc, constant_bits, constant}
-use Rattle.keccak.specs.Keccak.{each, round, rounds, keccak_f}
-use Rattle.keccak.proofs.Each.{get_or-each}
-use Rattle.keccak.proofs.Rounds.{rounds_next}
+use mathlib.Core.Path.{◌≡◌}
+use Prim.Native.Nat.{◌-◌, ◌≤◌}
+use Rattle.keccak.specs.Constants.{constant}
+use Rattle.keccak.specs.Keccak.{each, rounds}
 use Rattle.permutation.proofs.permute.Given as goal
 
 abbrev pub invariant-loop-i : goal.invariant-loop-i

@@ -1,6 +1,5 @@
 -- `round` is the five steps, each by its function's contract.
 -- Assumes nothing.
-use borrow.Author.Rules.{rules}
 use Rattle.keccak.specs.Keccak.{round, ι}
 use Rattle.permutation.proofs.round.Goals as goal
 

@@ -1,7 +1,6 @@
 -- `aim_over` reads where the digest of the framed message points.
 -- Assumes nothing.
 use mathlib.Core.List.{◌++◌}
-use borrow.Author.Rules.{rules}
 use Rattle.rows.specs.Rows.{ruled_row}
 use Rattle.calls.specs.Hashes.{family_for}
 use Rattle.points.proofs.PointLaws.{aimed}

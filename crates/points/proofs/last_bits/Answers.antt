@@ -1,7 +1,6 @@
 -- `last_bits` leaves the remainder, and of 64 bits or more the whole number.
 -- Assumes nothing.
 use native.Mathlib.Omega.{arith}
-use borrow.Author.Rules.{rules}
 use Rattle.lists.specs.Below.{Below}
 use Rattle.digits.proofs.Laws.{digit_modulus}
 use Rattle.points.proofs.PointLaws.{bits_cut, bits_kept}

@@ -1,8 +1,5 @@
 -- `point` reads the forest's digits, the tree and the leaf from the three pieces of a digest.
 -- Assumes nothing.
-use native.Mathlib.Omega.{arith}
-use native.Mathlib.Nat.{sub-zero}
-use borrow.Author.Rules.{rules}
 use Rattle.rows.specs.Rows.{ruled_row}
 use Rattle.points.proofs.PointLaws.{bits_fit, height_le, forest_bits, indices_read, tree_read, leaf_read, pointed_at}
 use Rattle.points.proofs.point.Goals as goal
@@ -13,11 +10,10 @@ overflow_sub-bits c =
     height_le c.args.row.d _ _ legal.some_layer legal.layers
 
 pub digits-requires : goal.digits-requires
-digits-requires c =
-    (
-      c.requires.0.fit.digits,
-      forest_bits (ruled_row c.args.row) c.args.digest.now _ c.requires.0.legal c.requires.1 c.requires.2,
-    )
+digits-requires c = (
+  c.requires.0.fit.digits,
+  forest_bits (ruled_row c.args.row) c.args.digest.now _ c.requires.0.legal c.requires.1 c.requires.2,
+)
 
 pub overflow_cast-leaf : goal.overflow_cast-leaf
 overflow_cast-leaf c =

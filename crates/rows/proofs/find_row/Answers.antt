@@ -1,9 +1,8 @@
 -- `find_row` answers as the rules' table does: its two rows are worked out, and any other number passes both.
 -- Assumes nothing.
 use mathlib.Core.Path.{◌≡◌, sym, ap, ◌∙◌}
-use mathlib.Core.List.{[], ◌∷◌}
 use borrow.Author.Rules.{rules}
-use Rattle.rules.specs.Sets.{row, rows, find, row_of}
+use Rattle.rules.specs.Sets.{rows, find, row_of}
 use Rattle.rules.proofs.SetLaws.{find_next, find_end}
 use Rattle.rows.proofs.find_row.Goals as goal
 

@@ -1,7 +1,5 @@
 -- `absorb_two` feeds its two pieces joined, since pieces fed one after the other are the pieces joined.
 -- Assumes nothing.
-use mathlib.Core.Path.{◌≡◌, sym, ap, ◌∙◌}
-use borrow.Author.Rules.{rules}
 use Rattle.shake.proofs.Laws.{feed_append}
 use Rattle.shake.proofs.absorb_two.Goals as goal
 

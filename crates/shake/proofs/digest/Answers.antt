@@ -1,6 +1,5 @@
 -- `digest` is SHAKE256: one piece absorbed, finished and squeezed is that by the law `shaken`.
 -- Assumes nothing.
-use borrow.Author.Rules.{rules}
 use Rattle.shake.proofs.Laws.{shaken}
 use Rattle.shake.proofs.digest.Goals as goal
 

@@ -1,6 +1,5 @@
 -- `end` draws from the finished sponge.
 -- Assumes nothing.
-use borrow.Author.Rules.{rules}
 use Rattle.shake.proofs.end.Goals as goal
 
 pub returns : goal.returns

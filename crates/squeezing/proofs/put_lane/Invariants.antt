@@ -1,14 +1,10 @@
 -- `put_lane` writes a lane's bytes: those put, with those that the rest of the lane still holds, are the lane's.
 -- Assumes nothing.
-use mathlib.Core.Path.{◌≡◌, refl, sym, ap, ◌∙◌}
-use Prim.Native.Nat.{ℕ, ◌+◌, ◌-◌, ◌/◌, ◌≤◌}
-use mathlib.Core.List.{◌++◌, append-nil}
-use native.Mathlib.Omega.{arith}
-use native.Mathlib.Nat.{add-zero}
-use lib.ListN.{length, set, take, length-set}
-use borrow.Author.Rules.{rules}
+use mathlib.Core.Path.{◌≡◌}
+use Prim.Native.Nat.{◌+◌, ◌-◌, ◌≤◌}
+use mathlib.Core.List.{◌++◌}
+use lib.ListN.{length, take}
 use Rattle.sponge.specs.Sponge.{digits}
-use Rattle.sponge.proofs.Lanes.{store_next}
 use Rattle.squeezing.proofs.put_lane.Given as goal
 
 abbrev pub invariant-loop-k : goal.invariant-loop-k

@@ -1,11 +1,10 @@
 -- `squeeze` draws its bytes: after each turn the bytes out are those drawn, and the sponge is past them.
 -- Assumes nothing.
 use mathlib.Core.Path.{◌≡◌, refl, sym, ap, ◌∙◌}
-use Prim.Native.Nat.{ℕ, ◌-◌, ◌≤◌, ◌<◌}
+use Prim.Native.Nat.{ℕ, ◌<◌}
 use native.Mathlib.Omega.{arith}
-use lib.ListN.{length, take}
+use lib.ListN.{length}
 use lib.Seq.{take_all}
-use borrow.Author.Rules.{rules}
 use Rattle.sponge.specs.Stream.{sponge, draw, drawn}
 use Rattle.sponge.proofs.Stream.{drawn_next, draw_next}
 use Rattle.squeezing.proofs.squeeze.Goals as goal
@@ -40,7 +39,7 @@ returns c =
     let k = sponge a.s.now a.at in
     let e : l.i ≡ length a.out.now = omega arith in
     let o = sym (take_all _ _ c.loop-i-test.false) ∙ l.invariant.3 in
-     record {
+    record {
       result_after = l.invariant.2 ∙ ap (λ (n : ℕ). drawn a.rate n k) e;
       out_after = o ∙ ap (λ (n : ℕ). draw a.rate n k) e;
     }

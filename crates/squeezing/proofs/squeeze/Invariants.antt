@@ -1,13 +1,9 @@
 -- `squeeze` draws its bytes: after each turn the bytes out are those drawn, and the sponge is past them.
 -- Assumes nothing.
-use mathlib.Core.Path.{◌≡◌, refl, sym, ap, ◌∙◌}
-use Prim.Native.Nat.{ℕ, ◌-◌, ◌≤◌, ◌<◌}
-use native.Mathlib.Omega.{arith}
+use mathlib.Core.Path.{◌≡◌}
+use Prim.Native.Nat.{◌-◌, ◌≤◌}
 use lib.ListN.{length, take}
-use lib.Seq.{take_all}
-use borrow.Author.Rules.{rules}
 use Rattle.sponge.specs.Stream.{sponge, draw, drawn}
-use Rattle.sponge.proofs.Stream.{drawn_next, draw_next}
 use Rattle.squeezing.proofs.squeeze.Given as goal
 
 abbrev pub invariant-loop-i : goal.invariant-loop-i

@@ -1,6 +1,5 @@
 -- `node_address` gives the address of the node's place: each kind of grove has its type of address.
 -- Assumes nothing.
-use borrow.Author.Rules.{rules}
 use Rattle.climbs.proofs.GroveLaws.{node_in}
 use Rattle.climbs.proofs.groves.node_address.Goals as goal
 

@@ -3,7 +3,6 @@
 use mathlib.Core.Path.{ap}
 use Prim.Native.Nat.{◌*◌}
 use native.Mathlib.Omega.{arith}
-use borrow.Author.Rules.{rules}
 use Rattle.rows.proofs.SizeLaws.{size_fits}
 use Rattle.rows.proofs.sizes.chain_bytes.Goals as goal
 

@@ -1,7 +1,6 @@
 -- `chain_count` is the definition.
 -- Assumes nothing.
 use mathlib.Core.Path.{refl}
-use borrow.Author.Rules.{rules}
 use Rattle.rows.proofs.sizes.chain_count.Goals as goal
 
 pub returns : goal.returns

@@ -3,7 +3,6 @@
 use mathlib.Core.Path.{ap}
 use Prim.Native.Nat.{◌*◌}
 use native.Mathlib.Omega.{arith}
-use borrow.Author.Rules.{rules}
 use Rattle.rows.proofs.SizeLaws.{trees_fit}
 use Rattle.rows.proofs.sizes.forest_bytes.Goals as goal
 

@@ -1,7 +1,6 @@
 -- `layer_bytes` is the chains' bytes and the path's, and fits a word.
 -- Assumes nothing.
 use native.Mathlib.Omega.{arith}
-use borrow.Author.Rules.{rules}
 use Rattle.rows.proofs.SizeLaws.{size_fits, small_product}
 use Rattle.rows.proofs.sizes.layer_bytes.Goals as goal
 

@@ -1,7 +1,6 @@
 -- `tree_bytes` fits a word.
 -- Assumes nothing.
 use native.Mathlib.Omega.{arith}
-use borrow.Author.Rules.{rules}
 use Rattle.rows.proofs.SizeLaws.{small_product}
 use Rattle.rows.proofs.sizes.tree_bytes.Goals as goal
 

@@ -2,7 +2,6 @@
 -- Assumes nothing.
 use mathlib.Core.Path.{◌∙◌}
 use lib.Seq.{take_at}
-use borrow.Author.Rules.{rules}
 use Rattle.lists.proofs.Parts.{zeros_part}
 use Rattle.trees.proofs.nodes.forest_leaf.Goals as goal
 

@@ -1,6 +1,5 @@
 -- `forest_leaf_in` is the leaf of the rules: the secret value, and F of it in place.
 -- Assumes nothing.
-use borrow.Author.Rules.{rules}
 use Rattle.calls.specs.Hashes.{hashes_of}
 use Rattle.trees.proofs.NodeLaws.{forest_made}
 use Rattle.trees.proofs.nodes.forest_leaf_in.Goals as goal

@@ -1,6 +1,5 @@
 -- `leaf_of` is the leaf of the grove's tree: each kind of grove has its rule of leaves.
 -- Assumes nothing.
-use borrow.Author.Rules.{rules}
 use Rattle.calls.specs.Hashes.{hashes_of}
 use Rattle.trees.proofs.NodeLaws.{leaf_in}
 use Rattle.trees.proofs.nodes.leaf_of.Goals as goal

@@ -1,19 +1,12 @@
 -- `path_in` writes the path of the rules: what is written and the path left from each height on are the whole path.
 -- Assumes nothing.
-use mathlib.Core.Path.{◌≡◌, refl, sym, ◌∙◌}
+use mathlib.Core.Path.{◌≡◌}
 use mathlib.Core.List.{◌++◌}
 use Prim.Native.Nat.{◌+◌, ◌-◌, ◌*◌, ◌^◌, ◌≤◌}
-use native.Mathlib.Nat.{mul-le-mul_right}
-use native.Mathlib.Numerals.{unary_clauses}
-use native.Mathlib.Omega.{arith}
-use borrow.Author.Rules.{rules}
 use lib.ListN.{length, take}
-use lib.Seq.{length-take-le, take_all}
-use Rattle.lists.proofs.Parts.{piece_room}
 use Rattle.rules.specs.Trees.{path}
 use Rattle.calls.specs.Hashes.{hashes_of}
 use Rattle.climbs.specs.Groves.{tree_of}
-use Rattle.trees.proofs.PathLaws.{path_turn, path_end, room_start, room_turn}
 use Rattle.trees.proofs.paths.path_in.Given as goal
 
 abbrev pub invariant-loop-z : goal.invariant-loop-z
