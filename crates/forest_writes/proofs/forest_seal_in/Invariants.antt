@@ -1,18 +1,11 @@
 -- `forest_seal_in` writes the trees' parts one after the other: what is written and what is left are the whole.
 -- Assumes nothing.
-use mathlib.Core.Path.{◌≡◌, refl, sym, ap, ◌∙◌}
+use mathlib.Core.Path.{◌≡◌}
 use mathlib.Core.List.{◌++◌}
-use Prim.Native.Nat.{ℕ, ◌+◌, ◌-◌, ◌*◌, ◌^◌, ◌≤◌, ◌<◌}
-use native.Mathlib.Omega.{arith}
-use lib.ListN.{length, take, drop, get_or}
-use lib.Seq.{take_all}
-use borrow.Author.Rules.{rules}
-use Rattle.lists.proofs.Bits.{one_shifted}
-use Rattle.lists.proofs.Parts.{piece_room}
-use Rattle.lists.proofs.Filling.{part_written, part_length_lem, lent_length}
+use Prim.Native.Nat.{◌-◌, ◌*◌, ◌^◌, ◌≤◌}
+use lib.ListN.{length, take, drop}
 use Rattle.rules.specs.Forest.{forest_seal}
 use Rattle.calls.specs.Hashes.{hashes_of}
-use Rattle.forest_writes.proofs.ForestLaws.{forest_turn, forest_end}
 use Rattle.forest_writes.proofs.forest_seal_in.Given as goal
 
 abbrev pub invariant-loop-j : goal.invariant-loop-j

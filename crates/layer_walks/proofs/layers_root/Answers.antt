@@ -13,10 +13,12 @@ use borrow.Author.Rules.{rules}
 use Rattle.lists.proofs.Parts.{piece_room}
 use Rattle.lists.proofs.Lent.{lent, front}
 use Rattle.lists.proofs.Filling.{lent_length}
-use Rattle.rules.specs.Calls.{F, of}
+use Rattle.rules.specs.Places.{Bytes}
+use Rattle.rules.specs.Calls.{F, of, Hashes}
 use Rattle.rules.specs.Layers.{layer_root}
 use Rattle.counts.specs.Counts.{count}
 use Rattle.calls.specs.Hashes.{hashes_of}
+use Rattle.climbs.specs.declared.Walked.{Walked}
 use Rattle.climbs.specs.Leads.{Leads}
 use Rattle.climbs.proofs.LeadLaws.{leads_by}
 use Rattle.layer_walks.proofs.UpLaws.{up_run, up_result, up_calls, up_start, up_end, up_most}
@@ -25,15 +27,11 @@ use Rattle.layer_walks.proofs.layers_root.Goals as goal
 
 -- A tree has a leaf.
 pub nonzero_rem-k : goal.nonzero_rem-k
-nonzero_rem-k c =
-    let s = c in
-    rw s.pre.leaves (pow_pos s.args.hp)
+nonzero_rem-k c = rw c.requires.leaves (pow_pos c.args.hp)
 
 -- A tree has a leaf.
 pub nonzero_div-t : goal.nonzero_div-t
-nonzero_div-t c =
-    let s = c in
-    rw s.pre.leaves (pow_pos s.args.hp)
+nonzero_div-t c = rw c.requires.leaves (pow_pos c.args.hp)
 
 pub loop-j-init : goal.loop-j-init
 loop-j-init c =
@@ -46,89 +44,98 @@ loop-j-init c =
       search rules,
     )
 
+-- In a turn there is a part left.
+part_left : (j d part at : ℕ) {whole long : ℕ} → j < d → at ≡ j * part → whole ≡ d * long → part ≡ long
+    → at + part ≤ whole
+part_left j d part at h e f g = omega (arith, piece_room j d part h, f ∙ ap (λ x. d * x) (sym g))
+
+pub overflow_add-e : goal.overflow_add-e
+overflow_add-e c =
+    let l = c.loop-j in
+    let step = c.layer_bytes-step in
+    let room = part_left l.j c.args.d step.result l.at c.loop-j-test.true l.invariant.1 c.requires.sig_long
+    step.ensures in
+    omega (arith, room)
+
+pub slice_bounds-layer_root-end : goal.slice_bounds-layer_root-end
+slice_bounds-layer_root-end c =
+    let l = c.loop-j in
+    let step = c.layer_bytes-step in
+    let room = part_left l.j c.args.d step.result l.at c.loop-j-test.true l.invariant.1 c.requires.sig_long
+    step.ensures in
+    omega (arith, room)
+
+pub slice_bounds-layer_root-end-in-loop-j : goal.slice_bounds-layer_root-end-in-loop-j
+slice_bounds-layer_root-end-in-loop-j c = omega (arith, c.loop-j.invariant.4, c.requires.small)
+
 pub layer_root-up-requires : goal.layer_root-up-requires
 layer_root-up-requires c =
-    let part : ℕ =
-    c.layer_bytes-step.result in
-    let room : c.loop-j.at + part ≤ length c.args.sig.now =
-    let s = c in
-        let l = c.loop-j in
-        omega (
-          arith,
-          piece_room l.j s.args.d part c.loop-j-test.true,
-          s.pre.sig_long ∙ ap (λ x. s.args.d * x) (sym c.layer_bytes-step.ensures),
-          l.invariant.1,
-        ) in
-    let s = c in
-    let a = s.args in
+    let a = c.args in
     let l = c.loop-j in
-    let n = a.kit.n in (
-      s.pre.small,
-      ap (λ k. length (take k l.v)) (sub-zero n) ∙ length-take-le n l.v (omega (arith, l.invariant.4, s.pre.small)),
-      lent_length l.at part a.sig.now room ∙ c.layer_bytes-step.ensures,
+    let n = a.kit.n in
+    let step = c.layer_bytes-step in
+    let room = part_left l.j a.d step.result l.at c.loop-j-test.true l.invariant.1 c.requires.sig_long
+    step.ensures in (
+      c.requires.small,
+      ap (λ k. length (take k l.v)) (sub-zero n)
+          ∙ length-take-le n l.v (omega (arith, l.invariant.4, c.requires.small)),
+      lent_length l.at step.result a.sig.now room ∙ step.ensures,
     )
+
+-- What a turn learnt of the layer it went through.
+layer_led : (w : Hashes) (h' l t i at part n : ℕ) (sig v : Bytes) {up : Walked}
+    → Leads n (layer_root w h' l t i (take (at + part - at) (drop at sig)) (take (n - 0) v)) up
+    → Leads n (layer_root w h' l t i (take part (drop at sig)) (take n v)) up
+layer_led w h' l t i at part n sig v h =
+    leads_by (ap₂ (layer_root w h' l t i) (lent at part sig) (front n v)) h
 
 pub overflow_add-calls : goal.overflow_add-calls
 overflow_add-calls c =
-    let part : ℕ =
-    c.layer_bytes-step.result in
-    let layer : let a = c.args in
-        let l = c.loop-j in
-        Leads a.kit.n (layer_root (hashes_of a.kit a.seed.now) a.hp l.j l.t l.k
-        (take part (drop l.at a.sig.now)) (take a.kit.n l.v))
-        c.layer_root-up.result =
     let a = c.args in
-        let l = c.loop-j in
-        leads_by (ap₂ (layer_root (hashes_of a.kit a.seed.now) a.hp l.j l.t l.k)
-        (lent l.at part a.sig.now) (front a.kit.n l.v))
-        c.layer_root-up.ensures in
-    let s = c in
-    let a = s.args in
     let l = c.loop-j in
+    let part = c.layer_bytes-step.result in
     let w = hashes_of a.kit a.seed.now in
-    let v = take a.kit.n c.layer_root-up.result.value in
+    let m = take a.kit.n l.v in
+    let up = c.layer_root-up in
+    let layer : Leads a.kit.n (layer_root w a.hp l.j l.t l.k (take part (drop l.at a.sig.now)) m) up.result =
+    layer_led w a.hp l.j l.t l.k l.at part a.kit.n a.sig.now l.v up.ensures in
     omega (
       arith,
       layer.counted,
       l.invariant.3,
-      up_turn_calls w a.hp a.d l.j l.t l.k l.at a.size part
-          (take a.kit.n l.v) a.sig.now v c.loop-j-test.true s.pre.leaves
-          c.layer_bytes-step.ensures layer.value_is,
-      up_most w a.hp a.d 0 a.tree a.i (take a.kit.n a.m) a.sig.now s.pre.small,
-      s.pre.few,
+      up_turn_calls w a.hp a.d l.j l.t l.k l.at a.size part m a.sig.now (take a.kit.n up.result.value)
+          c.loop-j-test.true c.requires.leaves c.layer_bytes-step.ensures layer.value_is,
+      up_most w a.hp a.d 0 a.tree a.i (take a.kit.n a.m) a.sig.now c.requires.small,
+      c.requires.few,
     )
+
+pub overflow_cast-k : goal.overflow_cast-k
+overflow_cast-k c =
+    let leaves : 0 < c.args.size = rw c.requires.leaves (pow_pos c.args.hp) in
+    omega (arith, mod-lt c.loop-j.t leaves, c.requires.counted)
 
 pub loop-j-preserved : goal.loop-j-preserved
 loop-j-preserved c =
-    let part : ℕ =
-    c.layer_bytes-step.result in
-    let layer : let a = c.args in
-        let l = c.loop-j in
-        Leads a.kit.n (layer_root (hashes_of a.kit a.seed.now) a.hp l.j l.t l.k
-        (take part (drop l.at a.sig.now)) (take a.kit.n l.v))
-        c.layer_root-up.result =
     let a = c.args in
-        let l = c.loop-j in
-        leads_by (ap₂ (layer_root (hashes_of a.kit a.seed.now) a.hp l.j l.t l.k)
-        (lent l.at part a.sig.now) (front a.kit.n l.v))
-        c.layer_root-up.ensures in
-    let s = c in
-    let a = s.args in
     let l = c.loop-j in
+    let part = c.layer_bytes-step.result in
     let w = hashes_of a.kit a.seed.now in
     let m = take a.kit.n l.v in
     let e = c.layer_bytes-step.ensures in
-    let v = take a.kit.n c.layer_root-up.result.value in (
+    let up = c.layer_root-up in
+    let v = take a.kit.n up.result.value in
+    let layer : Leads a.kit.n (layer_root w a.hp l.j l.t l.k (take part (drop l.at a.sig.now)) m) up.result =
+    layer_led w a.hp l.j l.t l.k l.at part a.kit.n a.sig.now l.v up.ensures in (
       omega arith,
       omega (arith, l.invariant.1),
       up_turn w a.hp a.d l.j l.t l.k l.at a.size part m a.sig.now v
-          c.loop-j-test.true s.pre.leaves e layer.value_is l.invariant.2,
+          c.loop-j-test.true c.requires.leaves e layer.value_is l.invariant.2,
       omega (
         arith,
         layer.counted,
         l.invariant.3,
         up_turn_calls w a.hp a.d l.j l.t l.k l.at a.size part m a.sig.now v
-            c.loop-j-test.true s.pre.leaves e layer.value_is,
+            c.loop-j-test.true c.requires.leaves e layer.value_is,
       ),
       layer.value_long,
     )
@@ -136,14 +143,13 @@ loop-j-preserved c =
 pub returns : goal.returns
 returns c =
     let l = c.loop-j in
-    let s = c in
-    let a = s.args in
+    let a = c.args in
     let w = hashes_of a.kit a.seed.now in
     let m = take a.kit.n a.m in
     let end = up_end w a.hp a.d l.j l.t l.k (take a.kit.n l.v) (drop l.at a.sig.now)
     (omega arith) in
-    let some : a.d ≡ suc (a.d - 1) = omega (arith, s.pre.some) in
-    let long = s.pre.sig_long
+    let some : a.d ≡ suc (a.d - 1) = omega (arith, c.requires.some) in
+    let long = c.requires.sig_long
     ∙ ap (λ x. x * ((2 * a.kit.n + 3) * a.kit.n + a.hp * a.kit.n)) some in
     record {
       value_is = sym end.0 ∙ l.invariant.2
@@ -154,49 +160,3 @@ returns c =
           ∙ up_calls w a.hp (a.d - 1) 0 a.tree a.i m a.sig.now long;
       value_long = l.invariant.4;
     }
-
-pub overflow_cast-k : goal.overflow_cast-k
-overflow_cast-k c =
-    let s = c in
-    omega (
-      arith,
-      mod-lt c.loop-j.t (leaves c),
-      s.pre.counted,
-    )
-
-pub overflow_add-e : goal.overflow_add-e
-overflow_add-e c =
-    let part : ℕ =
-    c.layer_bytes-step.result in
-    let room : c.loop-j.at + part ≤ length c.args.sig.now =
-    let s = c in
-        let l = c.loop-j in
-        omega (
-          arith,
-          piece_room l.j s.args.d part c.loop-j-test.true,
-          s.pre.sig_long ∙ ap (λ x. s.args.d * x) (sym c.layer_bytes-step.ensures),
-          l.invariant.1,
-        ) in
-    omega (arith, room)
-
-pub slice_bounds-layer_root-end : goal.slice_bounds-layer_root-end
-slice_bounds-layer_root-end c =
-    let part : ℕ =
-    c.layer_bytes-step.result in
-    let room : c.loop-j.at + part ≤ length c.args.sig.now =
-    let s = c in
-        let l = c.loop-j in
-        omega (
-          arith,
-          piece_room l.j s.args.d part c.loop-j-test.true,
-          s.pre.sig_long ∙ ap (λ x. s.args.d * x) (sym c.layer_bytes-step.ensures),
-          l.invariant.1,
-        ) in
-    omega (arith, room)
-
-pub slice_bounds-layer_root-end-in-loop-j : goal.slice_bounds-layer_root-end-in-loop-j
-slice_bounds-layer_root-end-in-loop-j c = omega (
-      arith,
-      c.loop-j.invariant.4,
-      c.pre.small,
-    )

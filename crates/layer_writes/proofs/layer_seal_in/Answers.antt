@@ -2,7 +2,6 @@
 -- Assumes nothing.
 use mathlib.Core.Path.{◌∙◌}
 use native.Mathlib.Omega.{arith}
-use borrow.Author.Rules.{rules}
 use Rattle.lists.proofs.Parts.{zeros_part}
 use Rattle.layer_writes.proofs.layer_seal_in.Goals as goal
 
@@ -10,7 +9,7 @@ pub layer_seal_over-requires : goal.layer_seal_over-requires
 layer_seal_over-requires c =
     let many = c.chain_count-len.ensures in
     let long = zeros_part c.chain_count-len.result 67 (omega (arith, many, c.requires.0)) ∙ many in
-     record {
+    record {
       n_bound = (c.requires.0, c.requires.1, c.requires.2);
       ds_len = (long, c.requires.3);
     }

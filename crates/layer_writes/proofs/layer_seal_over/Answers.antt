@@ -1,60 +1,50 @@
 -- `layer_seal_over` reads the digits, and writes what the chains show over the first bytes and the path over the rest.
 -- Assumes nothing.
 use mathlib.Core.Path.{◌≡◌, sym, ap, ◌∙◌}
+use mathlib.Core.List.{List}
 use Prim.Native.Nat.{ℕ, ◌+◌, ◌-◌, ◌*◌}
 use native.Mathlib.Omega.{arith}
 use lib.ListN.{length, take}
-use borrow.Author.Rules.{rules}
-use Rattle.rules.specs.Chains.{chain_digits}
+use Rattle.rules.specs.Places.{Bytes}
+use Rattle.rules.specs.Chains.{chains, chain_digits}
 use Rattle.rules.proofs.ChecksumLaws.{chain_digits_below}
 use Rattle.calls.specs.Hashes.{hashes_of}
 use Rattle.lists.proofs.Lent.{front_long}
 use Rattle.layer_writes.proofs.LayerLaws.{layer_written}
 use Rattle.layer_writes.proofs.layer_seal_over.Goals as goal
 
-
--- HELPERS TO INLINE
 -- The digits are those of the value, and the part lent for the chains has room for what they show.
-record Read (c : tie.After-chain-digits) : Type 0 where
-  digits : c.chain_digits.new.out ≡ chain_digits (start c).args.kit.n (start c).args.m.now
-  many : length c.chain_digits.new.out ≡ 2 * (start c).args.kit.n + 3
-  front : length (take (size c - 0) (start c).args.out.now) ≡ size c
+record Read (n size : ℕ) (m : Bytes) (ds : List ℕ) (out : Bytes) : Type 0 where
+  digits : ds ≡ chain_digits n m
+  many : length ds ≡ chains n
+  front : length (take (size - 0) out) ≡ size
 
--- END HELPERS
+read : (n size h' : ℕ) (m : Bytes) {ds : List ℕ} (out : Bytes) → length m ≡ n → ds ≡ chain_digits (length m) m
+    → length ds ≡ chains n → size ≡ chains n * n → length out ≡ chains n * n + h' * n → Read n size m ds out
+read n size h' m out e f g fits long = record {
+  digits = f ∙ ap (λ k. chain_digits k m) e;
+  many = g;
+  front = front_long size out (omega (arith, fits, long));
+}
 
 pub shown_in-requires : goal.shown_in-requires
 shown_in-requires c =
-    let size : ℕ =
-    c.chain_bytes-size.result in
-    let read : Read c =
-    let s = c in
-        let a = s.args in
-        record {
-          digits = c.chain_digits.ensures ∙ ap (λ k. chain_digits k a.m.now) s.pre.0.1;
-          many = c.chain_digits.auto.out ∙ s.pre.1.0;
-          front = front_long size a.out.now (omega (arith, c.chain_bytes-size.ensures, s.pre.1.1));
-        } in
-    let s = c in
-    let n = s.args.kit.n in (
-      read.front ∙ c.chain_bytes-size.ensures ∙ ap (λ x. x * n) (sym read.many),
-      omega (arith, read.many, s.pre.0.0),
-      rw read.digits (chain_digits_below n s.args.m.now),
+    let a = c.args in
+    let n = a.kit.n in
+    let now = read n c.chain_bytes-size.result a.hp a.m.now a.out.now c.requires.n_bound.1
+    c.chain_digits.ensures (c.chain_digits.auto.out ∙ c.requires.ds_len.0) c.chain_bytes-size.ensures
+    c.requires.ds_len.1 in (
+      now.front ∙ c.chain_bytes-size.ensures ∙ ap (λ x. x * n) (sym now.many),
+      omega (arith, now.many, c.requires.n_bound.0),
+      rw now.digits (chain_digits_below n a.m.now),
     )
 
 pub returns : goal.returns
 returns c =
-    let size : ℕ =
-    c.chain_bytes-size.result in
-    let read : Read c =
-    let s = c in
-        let a = s.args in
-        record {
-          digits = c.chain_digits.ensures ∙ ap (λ k. chain_digits k a.m.now) s.pre.0.1;
-          many = c.chain_digits.auto.out ∙ s.pre.1.0;
-          front = front_long size a.out.now (omega (arith, c.chain_bytes-size.ensures, s.pre.1.1));
-        } in
     let a = c.args in
-    let long = c.shown_in.auto.out ∙ read.front in
-    layer_written (hashes_of a.kit a.seed.now) a.hp a.sk.now a.layer a.tree a.i
-    size a.m.now a.out.now long read.digits c.shown_in.ensures
-    c.path_in.ensures
+    let size = c.chain_bytes-size.result in
+    let now = read a.kit.n size a.hp a.m.now a.out.now c.requires.n_bound.1
+    c.chain_digits.ensures (c.chain_digits.auto.out ∙ c.requires.ds_len.0) c.chain_bytes-size.ensures
+    c.requires.ds_len.1 in
+    layer_written (hashes_of a.kit a.seed.now) a.hp a.sk.now a.layer a.tree a.i size a.m.now a.out.now
+    (c.shown_in.auto.out ∙ now.front) now.digits c.shown_in.ensures c.path_in.ensures

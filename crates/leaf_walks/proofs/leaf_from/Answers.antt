@@ -2,7 +2,6 @@
 -- Assumes nothing.
 use mathlib.Core.Path.{◌∙◌}
 use native.Mathlib.Omega.{arith}
-use borrow.Author.Rules.{rules}
 use Rattle.lists.proofs.Parts.{zeros_part}
 use Rattle.rows.proofs.SizeLaws.{size_fits}
 use Rattle.leaf_walks.proofs.leaf_from.Goals as goal
@@ -15,7 +14,8 @@ pub leaf_from_over-requires : goal.leaf_from_over-requires
 leaf_from_over-requires c =
     let many = c.chain_count-len.ensures in
     let long = c.chain_bytes-size.ensures in
-    let fits = size_fits c.args.kit.n c.requires.small in  record {
+    let fits = size_fits c.args.kit.n c.requires.small in
+    record {
       from = c.requires;
       ds_len = (
         zeros_part c.chain_count-len.result 67 (omega (arith, many, c.requires.small)) ∙ many,

@@ -27,7 +27,7 @@ returns c =
     let w = hashes_of a.kit a.seed.now in
     let ds = c.chain_digits.ensures ∙ ap (λ k. chain_digits k a.m.now) c.requires.from.value_long in
     let sig =
-    put_whole a.ends.now a.sig.now _ _ (c.requires.ds_len.1 ∙ sym c.requires.from.sig_long) put.auto.0
+    put_whole a.ends.now a.sig.now _ _ (c.requires.ds_len.1 ∙ sym c.requires.from.sig_long) put.auto.out
     put.ensures in
     let value =
     from_made w a.spot.layer a.spot.tree a.spot.pair a.sig.now a.m.now ds sig

@@ -1,16 +1,12 @@
 -- `walk_in` takes each chain to its end: what is done and what is left to walk are the whole, and so are the calls.
 -- Assumes nothing.
 use mathlib.Core.Path.{◌≡◌, refl, sym, ap, ◌∙◌}
-use mathlib.Core.List.{◌++◌}
-use Prim.Native.Nat.{◌+◌, ◌-◌, ◌*◌, ◌≤◌, ◌<◌}
-use native.Mathlib.Numerals.{unary_clauses}
+use Prim.Native.Nat.{◌+◌, ◌-◌, ◌*◌, ◌≤◌}
 use native.Mathlib.Omega.{arith}
 use lib.ListN.{length, take, drop, get_or}
 use lib.Seq.{take_all}
-use borrow.Author.Rules.{rules}
 use Rattle.lists.proofs.Parts.{piece_room}
 use Rattle.lists.proofs.Filling.{part_written, part_length_lem, part_rest, lent_length, lent_split}
-use Rattle.rules.specs.Chains.{steps, walk}
 use Rattle.rules.proofs.ChecksumLaws.{steps_le}
 use Rattle.calls.specs.Hashes.{hashes_of}
 use Rattle.chains.proofs.Loops.{chain_calls}
@@ -20,26 +16,19 @@ use Rattle.leaf_walks.proofs.walk_in.Goals as goal
 pub loop-i-init : goal.loop-i-init
 loop-i-init c = (omega arith, omega arith, refl, refl, omega arith)
 
+-- In a turn there is room for the next value, and the digit is below 16.
 pub chain_in-calls-requires : goal.chain_in-calls-requires
 chain_in-calls-requires c =
     let room : c.loop-i.at + c.args.kit.n ≤ length c.loop-i.io =
-    omega (
-          arith,
-          piece_room c.loop-i.i (length c.args.ds.now) c.args.kit.n c.loop-i-test.true,
-          c.requires.0,
-        ) in
-    let digit : get_or c.args.ds.now c.loop-i.i 0 < 16 =
-    c.requires.2 c.loop-i.i in
+    omega (arith, piece_room c.loop-i.i (length c.args.ds.now) c.args.kit.n c.loop-i-test.true, c.requires.0) in
     let l = c.loop-i in
-    (lent_length l.at c.args.kit.n l.io room, omega (arith, digit))
+    (lent_length l.at c.args.kit.n l.io room, omega (arith, c.requires.2 l.i))
 
+-- A turn makes 15 - digit calls.
 pub overflow_add-calls : goal.overflow_add-calls
 overflow_add-calls c =
-    let made : c.chain_in-calls.result
-        ≡ 15 - get_or c.args.ds.now
-        c.loop-i.i 0 =
-    c.chain_in-calls.ensures.value
-        ∙ sym (chain_calls _ _ _ _ _) in
+    let made : c.chain_in-calls.result ≡ 15 - get_or c.args.ds.now c.loop-i.i 0 =
+    c.chain_in-calls.ensures.value ∙ sym (chain_calls _ _ _ _ _) in
     let l = c.loop-i in
     omega (
       arith,
@@ -53,16 +42,9 @@ overflow_add-calls c =
 pub loop-i-preserved : goal.loop-i-preserved
 loop-i-preserved c =
     let room : c.loop-i.at + c.args.kit.n ≤ length c.loop-i.io =
-    omega (
-          arith,
-          piece_room c.loop-i.i (length c.args.ds.now) c.args.kit.n c.loop-i-test.true,
-          c.requires.0,
-        ) in
-    let made : c.chain_in-calls.result
-        ≡ 15 - get_or c.args.ds.now
-        c.loop-i.i 0 =
-    c.chain_in-calls.ensures.value
-        ∙ sym (chain_calls _ _ _ _ _) in
+    omega (arith, piece_room c.loop-i.i (length c.args.ds.now) c.args.kit.n c.loop-i-test.true, c.requires.0) in
+    let made : c.chain_in-calls.result ≡ 15 - get_or c.args.ds.now c.loop-i.i 0 =
+    c.chain_in-calls.ensures.value ∙ sym (chain_calls _ _ _ _ _) in
     let l = c.loop-i in
     let a = c.args in
     let n = a.kit.n in
@@ -87,7 +69,8 @@ returns c =
     let w = hashes_of a.kit a.seed.now in
     let done : l.i ≡ length a.ds.now = omega arith in
     let size = ap (λ x. x * a.kit.n) done in
-    let full : length l.io ≤ l.at = omega (arith, l.invariant.1, size, l.invariant.2, c.requires.0) in  record {
+    let full : length l.io ≤ l.at = omega (arith, l.invariant.1, size, l.invariant.2, c.requires.0) in
+    record {
       io_after = walk_end w a.spot.layer a.spot.tree a.spot.pair a.ds.now l.i l.io (drop l.at l.io)
           (omega arith) (rw (take_all l.at l.io full) at l.invariant.3);
       value = (omega (arith, l.invariant.4, steps_end a.ds.now l.i (omega arith)))
@@ -99,39 +82,31 @@ overflow_cast-i c = omega (arith, c.requires.1)
 
 pub overflow_sub-d : goal.overflow_sub-d
 overflow_sub-d c =
-    let digit : get_or c.args.ds.now c.loop-i.i 0 < 16 =
-    c.requires.2 c.loop-i.i in
-    omega (arith, digit)
+    omega (arith, c.requires.2 c.loop-i.i)
 
 pub overflow_add-at : goal.overflow_add-at
 overflow_add-at c =
-    let room : c.loop-i.at + c.args.kit.n ≤ length c.loop-i.io =
     omega (
-          arith,
-          piece_room c.loop-i.i (length c.args.ds.now) c.args.kit.n c.loop-i-test.true,
-          c.requires.0,
-        ) in
-    omega (arith, room)
+      arith,
+      piece_room c.loop-i.i (length c.args.ds.now) c.args.kit.n c.loop-i-test.true,
+      c.requires.0,
+    )
 
 pub slice_bounds-chain_in-end : goal.slice_bounds-chain_in-end
 slice_bounds-chain_in-end c =
-    let room : c.loop-i.at + c.args.kit.n ≤ length c.loop-i.io =
     omega (
-          arith,
-          piece_room c.loop-i.i (length c.args.ds.now) c.args.kit.n c.loop-i-test.true,
-          c.requires.0,
-        ) in
-    omega (arith, room)
+      arith,
+      piece_room c.loop-i.i (length c.args.ds.now) c.args.kit.n c.loop-i-test.true,
+      c.requires.0,
+    )
 
 pub overflow_add-at-in-loop-i : goal.overflow_add-at-in-loop-i
 overflow_add-at-in-loop-i c =
-    let room : c.loop-i.at + c.args.kit.n ≤ length c.loop-i.io =
     omega (
-          arith,
-          piece_room c.loop-i.i (length c.args.ds.now) c.args.kit.n c.loop-i-test.true,
-          c.requires.0,
-        ) in
-    omega (arith, room)
+      arith,
+      piece_room c.loop-i.i (length c.args.ds.now) c.args.kit.n c.loop-i-test.true,
+      c.requires.0,
+    )
 
 pub shape_of-io : goal.shape_of-io
 shape_of-io c = c.loop-i.invariant.2

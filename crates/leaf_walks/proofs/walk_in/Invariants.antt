@@ -1,26 +1,18 @@
 -- `walk_in` takes each chain to its end: what is done and what is left to walk are the whole, and so are the calls.
 -- Assumes nothing.
-use mathlib.Core.Path.{◌≡◌, refl, sym, ap, ◌∙◌}
+use mathlib.Core.Path.{◌≡◌}
 use mathlib.Core.List.{◌++◌}
-use Prim.Native.Nat.{◌+◌, ◌-◌, ◌*◌, ◌≤◌, ◌<◌}
-use native.Mathlib.Numerals.{unary_clauses}
-use native.Mathlib.Omega.{arith}
-use lib.ListN.{length, take, drop, get_or}
-use lib.Seq.{take_all}
-use borrow.Author.Rules.{rules}
-use Rattle.lists.proofs.Parts.{piece_room}
-use Rattle.lists.proofs.Filling.{part_written, part_length_lem, part_rest, lent_length, lent_split}
+use Prim.Native.Nat.{◌+◌, ◌-◌, ◌*◌, ◌≤◌}
+use lib.ListN.{length, take, drop}
 use Rattle.rules.specs.Chains.{steps, walk}
-use Rattle.rules.proofs.ChecksumLaws.{steps_le}
 use Rattle.calls.specs.Hashes.{hashes_of}
-use Rattle.chains.proofs.Loops.{chain_calls}
-use Rattle.leaf_walks.proofs.Loops.{walk_turn, walk_end, walk_calls, steps_turn, steps_end}
 use Rattle.leaf_walks.proofs.walk_in.Given as goal
 
 abbrev pub invariant-loop-i : goal.invariant-loop-i
 invariant-loop-i l =
     (l.i ≤ length l.ds) × (l.at ≡ l.i * l.n) × (length l.io ≡ length l.initial.io)
-    × (take l.at l.io ++ (walk (hashes_of l.kit l.seed) l.spot.layer l.spot.tree l.spot.pair l.i (drop l.i l.ds) (drop l.at l.io)).result
+    × (take l.at l.io ++ (walk (hashes_of l.kit l.seed) l.spot.layer l.spot.tree l.spot.pair l.i
+    (drop l.i l.ds) (drop l.at l.io)).result
     ≡ (walk (hashes_of l.kit l.seed) l.spot.layer l.spot.tree l.spot.pair 0 l.ds l.initial.io).result)
     × (l.calls + steps (drop l.i l.ds) ≡ steps l.ds)
 

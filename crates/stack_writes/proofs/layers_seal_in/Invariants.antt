@@ -1,26 +1,19 @@
 -- `layers_seal_in` writes the layers' parts one after the other, each for the root that the one below leads to: what is
 -- written and what is left to write are the whole.
 -- Assumes nothing.
-use mathlib.Core.Path.{◌≡◌, refl, sym, ap, ◌∙◌}
+use mathlib.Core.Path.{◌≡◌}
 use mathlib.Core.List.{◌++◌}
-use Prim.Native.Nat.{ℕ, ◌+◌, ◌-◌, ◌*◌, ◌^◌, ◌≤◌, ◌<◌}
-use native.Mathlib.Nat.{mod-lt}
-use native.Mathlib.Numerals.{unary_clauses}
-use native.Mathlib.Omega.{arith}
-use lib.ListN.{length, take, length-drop}
-use borrow.Author.Rules.{rules}
-use Rattle.lists.proofs.Parts.{piece_room}
-use Rattle.lists.proofs.Filling.{part_written, part_length_lem, lent_length, rest_read, rest_written}
-use Rattle.lists.proofs.Lent.{front_long}
+use Prim.Native.Nat.{◌-◌, ◌*◌, ◌≤◌, ◌<◌}
+use lib.ListN.{length, take}
 use Rattle.rules.specs.Layers.{layers_seal}
 use Rattle.calls.specs.Hashes.{hashes_of}
-use Rattle.stack_writes.proofs.StackLaws.{leaf_room, layers_turn, layers_end}
 use Rattle.stack_writes.proofs.layers_seal_in.Given as goal
 
 abbrev pub invariant-loop-j : goal.invariant-loop-j
 invariant-loop-j l =
     (l.j ≤ l.top) × (l.at ≡ l.j * l.step) × (l.k < l.size) × (length l.v ≡ 32) × (length l.out ≡ length l.initial.out)
-    × (take l.at l.out ++ (layers_seal (hashes_of l.kit l.seed) l.hp l.sk (l.top - l.j) l.j l.t l.k (take l.n l.v)).result
+    × (take l.at l.out ++ (layers_seal (hashes_of l.kit l.seed) l.hp l.sk (l.top - l.j) l.j l.t l.k
+    (take l.n l.v)).result
     ≡ (layers_seal (hashes_of l.kit l.seed) l.hp l.sk l.top 0 l.tree l.i (take l.n l.initial.v)).result)
 
 abbrev pub decreases-loop-j : goal.decreases-loop-j

@@ -1,7 +1,6 @@
 -- `layers_in` asks for all layers' parts with the sizes of a ready row.
 -- Assumes nothing.
 use native.Mathlib.Omega.{arith}
-use borrow.Author.Rules.{rules}
 use Rattle.rows.specs.Rows.{ruled_row}
 use Rattle.rows.proofs.SizeLaws.{layer_leaves}
 use Rattle.rows.proofs.ShapeLaws.{stack, leaves_are}
