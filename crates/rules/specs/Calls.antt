@@ -8,7 +8,7 @@ use Rattle.rules.specs.Places.{Bytes, IsBytes, Place, address}
 pub data Function : Type 0 where
   F H T PRF : Function
 
--- The kinds of call: one of those functions, the randomizer (prf_msg) or the message digest (h_msg).
+-- The kinds of call: one of those functions, the randomizer (PRFmsg) or the message digest (Hmsg).
 pub data Kind : Type 0 where
   of : Function → Kind
   randomizer digest : Kind

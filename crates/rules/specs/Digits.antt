@@ -12,11 +12,11 @@ unfoldable pub digits : (b out x : ℕ) → List ℕ
 digits b zero x = []
 digits b (suc out) x = x / 2 ^ (b * out) % 2 ^ b ∷ digits b out x
 
--- Algorithm 2, to_int: a byte string as a big-endian number.
+-- Algorithm 2, toInt: a byte string as a big-endian number.
 abbrev pub to_int : List ℕ → ℕ
 to_int X = value 8 X
 
--- Algorithm 3, to_byte: a number as n big-endian bytes.
+-- Algorithm 3, toByte: a number as n big-endian bytes.
 abbrev pub to_byte : (x n : ℕ) → List ℕ
 to_byte x n = digits 8 n x
 
