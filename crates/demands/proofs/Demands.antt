@@ -108,7 +108,12 @@ module _ (set : ℕ) (secret message random out : Bytes) (a : Answer) (out-after
 module _ (set : ℕ) (public message seal : Bytes) (v : Verdict)
     (checked : Checked (row_of set) public message seal v) where
   -- "gives a numbered refusal exactly when the paper says so"; when it is 0, `accepted_exactly` says.
+<<<<<<< ours
   pub check_answer_lem : (c : ℕ) → (number v.answer ≡ c) ↔ Given (Applies (check_lines (row_of set) public message seal)) c
+=======
+  pub check_answer_lem : (c : ℕ)
+      → (number v.answer ≡ c) ↔ Given (Applies (check_lines (row_of set) public message seal)) c
+>>>>>>> theirs
   unfolding ordered none_before
   check_answer_lem =
       answer_given (check_lines (row_of set) public message seal) refl (number v.answer) checked.answered
@@ -170,7 +175,8 @@ pub keys_are : (set : ℕ) (sk_seed sk_prf pk_seed public secret : Bytes) (a : A
     (public-after ≡ public_key r (family_for r) sk_seed pk_seed)
     × (secret-after ≡ secret_key r (family_for r) sk_seed sk_prf pk_seed))
 keys_are set sk_seed sk_prf pk_seed public secret a public-after secret-after made done =
-    found (row_of set) _ ((keys_done set sk_seed sk_prf pk_seed public secret a public-after secret-after made).0 done).0
+    found (row_of set) _
+    ((keys_done set sk_seed sk_prf pk_seed public secret a public-after secret-after made).0 done).0
     (λ r e. (
       made.public_is ∙ settled_made _ (row_of set) _ public r (sym made.answered ∙ done) e,
       made.secret_is ∙ settled_made _ (row_of set) _ secret r (sym made.answered ∙ done) e,
@@ -222,10 +228,12 @@ accepted_exactly set public message seal v checked =
 
 -- A key pair from key making, and its set.
 module _ (set : ℕ) (sk_seed sk_prf pk_seed public-was secret-was : Bytes) (a : Answer) (public secret : Bytes)
-    (made : KeysMade (row_of set) sk_seed sk_prf pk_seed public-was secret-was a public secret) (done : number a ≡ 0) where
+    (made : KeysMade (row_of set) sk_seed sk_prf pk_seed public-was secret-was a public secret)
+    (done : number a ≡ 0) where
   abbrev Pair : Row → Type 0
   Pair r =
-      (public ≡ public_key r (family_for r) sk_seed pk_seed) × (secret ≡ secret_key r (family_for r) sk_seed sk_prf pk_seed)
+      (public ≡ public_key r (family_for r) sk_seed pk_seed)
+      × (secret ≡ secret_key r (family_for r) sk_seed sk_prf pk_seed)
 
   -- It is the rules' for the set.
   keys : Under (row_of set) Pair

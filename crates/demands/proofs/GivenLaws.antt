@@ -13,7 +13,8 @@ use Rattle.answers.specs.Tests.{passes, Holds, Fails}
 use Rattle.answers.specs.Lines.{Line, first, NoneApplies, lacks}
 use Rattle.answers.proofs.TestLaws.{Tells, holds, test, eqb_tells, not_tells, and_tells, or_tells, tells, denies}
 use Rattle.answers.proofs.LineLaws.{both, zero_given}
-use Rattle.demands.specs.Table.{Before, Given, none_applies, first_applies, Applies, applies, First, before, none_before, ordered}
+use Rattle.demands.specs.Table.{Before, Given, none_applies, first_applies, Applies, applies, First, before}
+use Rattle.demands.specs.Table.{none_before, ordered}
 
 -- ---- What the truth values tell
 

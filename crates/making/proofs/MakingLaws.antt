@@ -39,7 +39,8 @@ module _ (s p q public secret : Bytes) where
     }
 
     pub keys_refused : {answer : Answer} → number answer ≡ keys_answer (some r) s p q public secret
-        → (keys_answer (some r) s p q public secret ≡ 0 → ⊥) → KeysMade (some r) s p q public secret answer public secret
+        → (keys_answer (some r) s p q public secret ≡ 0 → ⊥)
+        → KeysMade (some r) s p q public secret answer public secret
     keys_refused e h = record {
       answered = e;
       public_is = sym (settled_kept _ (some r) (λ r. public_key r (family_for r) s q) public h);

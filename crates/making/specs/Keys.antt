@@ -30,4 +30,5 @@ module _ (row : Option Row) (sk_seed sk_prf pk_seed public secret : Bytes) where
   pub record KeysMade (answer : Answer) (public-after secret-after : Bytes) : Type 0 where
     pub answered : number answer ≡ keys_answer
     pub public_is : public-after ≡ settled keys_answer row (λ r. public_key r (family_for r) sk_seed pk_seed) public
-    pub secret_is : secret-after ≡ settled keys_answer row (λ r. secret_key r (family_for r) sk_seed sk_prf pk_seed) secret
+    pub secret_is : secret-after
+        ≡ settled keys_answer row (λ r. secret_key r (family_for r) sk_seed sk_prf pk_seed) secret

@@ -89,7 +89,7 @@ pub single_part_extent : (set : ℕ) (seal : Bytes) (k : ℕ) (x y start start' 
     → (y ≡ part_answer (row_of set) seal k) × ((start' ≡ start_given (row_of set) seal k)
     × (long' ≡ length_given (row_of set) seal k))
     → (x ≡ y) × ((start ≡ start') × (long ≡ long'))
-single_part_extent set seal k x y start start' long long' one other =
+single_part_extent set _ k x y start start' long long' one other =
     (one.0 ∙ sym other.0, (one.1.0 ∙ sym other.1.0, one.1.1 ∙ sym other.1.1))
 
 pub single_chain_digits : (set : ℕ) (value : Bytes) (digits : List ℕ) (x y : ℕ) (p q : List ℕ)

@@ -50,7 +50,8 @@ module _ (seal : Bytes) (k : ℕ) where
     part_refused h = sym (settled_kept _ (some r) (λ r. part r k seal) [] h)
 
     pub part_read : part_answer (some r) seal k ≡ 0
-        → take (part_start r k + part_length r k - part_start r k) (drop (part_start r k) seal) ≡ part_given (some r) seal k
+        → take (part_start r k + part_length r k - part_start r k) (drop (part_start r k) seal)
+        ≡ part_given (some r) seal k
     unfolding part
     part_read z =
         lent (part_start r k) (part_length r k) seal ∙ sym (settled_made _ (some r) (λ r. part r k seal) [] r z refl)

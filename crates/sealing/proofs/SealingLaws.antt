@@ -41,7 +41,8 @@ module _ (secret message random out : Bytes) where
     }
 
     pub seal_refused : {answer : Answer} → number answer ≡ seal_answer (some r) secret message random out
-        → (seal_answer (some r) secret message random out ≡ 0 → ⊥) → Sealed (some r) secret message random out answer out
+        → (seal_answer (some r) secret message random out ≡ 0 → ⊥)
+        → Sealed (some r) secret message random out answer out
     seal_refused e h = record {
       answered = e;
       out_is = sym (settled_kept _ (some r)

@@ -2,7 +2,6 @@
 -- Assumes nothing.
 use mathlib.Core.Path.{refl}
 use Rattle.answers.proofs.LineLaws.{no_line, one_line, passed_line}
-use borrow.Author.Rules.{rules}
 use Rattle.checking.proofs.check_answer.Goals as goal
 
 pub returns : goal.returns

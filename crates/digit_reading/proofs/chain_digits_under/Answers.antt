@@ -1,11 +1,9 @@
 -- `chain_digits_under` writes the digits where every test has passed, and else nothing.
 -- Assumes nothing.
-use mathlib.Core.Path.{sym, ap, ◌∙◌}
-use Prim.Native.Nat.{◌*◌, ◌^◌, ◌<◌}
+use mathlib.Core.Path.{sym, ◌∙◌}
 use Rattle.rules.proofs.SetLaws.{checksum_fits}
 use Rattle.rows.specs.Rows.{ruled_row}
 use Rattle.digit_reading.proofs.DigitsLaws.{digits_done, digits_refused, digits_long}
-use borrow.Author.Rules.{rules}
 use Rattle.digit_reading.proofs.chain_digits_under.Goals as goal
 
 pub chain_digits-requires : goal.chain_digits-requires

@@ -3,7 +3,6 @@
 use mathlib.Core.Path.{refl, ap}
 use lib.Dec.{eqb}
 use Rattle.answers.proofs.LineLaws.{no_line, one_line, passed_line}
-use borrow.Author.Rules.{rules}
 use Rattle.digit_reading.proofs.digits_answer.Goals as goal
 
 pub returns : goal.returns

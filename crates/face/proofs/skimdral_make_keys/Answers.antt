@@ -1,6 +1,5 @@
 -- What C is told of key making is what the desk promises, and the number of its answer.
 -- Assumes nothing.
-use borrow.Author.Rules.{rules}
 use Rattle.face.proofs.skimdral_make_keys.Goals as goal
 
 pub returns : goal.returns
@@ -8,3 +7,4 @@ returns c = record {
   answer = c.make_keys-answer.result;
   numbered = c.number_of.ensures;
   promised = c.make_keys-answer.ensures;
+}

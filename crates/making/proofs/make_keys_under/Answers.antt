@@ -3,7 +3,6 @@
 use mathlib.Core.Path.{sym, ◌∙◌}
 use Rattle.rows.specs.Rows.{ruled_row}
 use Rattle.making.proofs.MakingLaws.{keys_done, keys_refused, keys_long}
-use borrow.Author.Rules.{rules}
 use Rattle.making.proofs.make_keys_under.Goals as goal
 
 pub keys_in-requires : goal.keys_in-requires
@@ -12,7 +11,7 @@ keys_in-requires c =
     let z = sym c.keys_answer-answer.ensures ∙ sym
     c.number_of.ensures ∙ c.if-number_of-eq0.true in
     let l = keys_long a.sk.now a.prf.now a.pk.now a.public.now a.secret.now (ruled_row a.row) z in
-     record {
+    record {
       ready = (c.requires, l.s_long, l.p_long, l.q_long);
       public_len = (l.public_long, l.secret_long);
     }

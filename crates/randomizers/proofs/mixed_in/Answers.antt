@@ -6,14 +6,16 @@ use Rattle.randomizers.proofs.mixed_in.Goals as goal
 
 pub returns-then-random-eq0 : goal.returns-then-random-eq0
 returns-then-random-eq0 c =
-    let a = c.args in  record {
+    let a = c.args in
+    record {
       result_value = mixed_none a.random.now a.seed.now c.if-random-eq0.true;
-      ref_ptr_value = chosen_none (length a.random.now) a.random.ref_ptr a.seed.ptr c.if-random-eq0.true;
+      ref_ptr_value = chosen_none (length a.random.now) a.random.ref_ptr a.seed.ref_ptr c.if-random-eq0.true;
     }
 
 pub returns-else-random-eq0 : goal.returns-else-random-eq0
 returns-else-random-eq0 c =
-    let a = c.args in  record {
+    let a = c.args in
+    record {
       result_value = mixed_some a.random.now a.seed.now c.if-random-eq0.false;
-      ref_ptr_value = chosen_some (length a.random.now) a.random.ref_ptr a.seed.ptr c.if-random-eq0.false;
+      ref_ptr_value = chosen_some (length a.random.now) a.random.ref_ptr a.seed.ref_ptr c.if-random-eq0.false;
     }

@@ -1,7 +1,6 @@
 -- `randomizer_of_in` hashes the mixed-in bytes and the framed message.
 -- Assumes nothing.
 use mathlib.Core.List.{◌++◌}
-use borrow.Author.Rules.{rules}
 use Rattle.rules.specs.Seal.{mixed_in}
 use Rattle.rows.specs.Rows.{ruled_row}
 use Rattle.calls.specs.Hashes.{family_for}

@@ -1,6 +1,5 @@
 -- A round is accepted by demand 2, from nothing but the three promises.
 -- Assumes nothing.
-use borrow.Author.Rules.{rules}
 use Rattle.demands.proofs.Demands.{own_seals_accepted}
 use Rattle.round.proofs.make_seal_check.Goals as goal
 

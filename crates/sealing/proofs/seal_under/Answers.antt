@@ -3,26 +3,25 @@
 use mathlib.Core.Path.{sym, ◌∙◌}
 use Rattle.rows.specs.Rows.{ruled_row}
 use Rattle.sealing.proofs.SealingLaws.{seal_done, seal_refused, seal_long}
-use borrow.Author.Rules.{rules}
 use Rattle.sealing.proofs.seal_under.Goals as goal
 
-pub shape_of-out-then-number_of-eq0 : goal.shape_of-out-then-number_of-eq0
-shape_of-out-then-number_of-eq0 c =
+pub seal_in-requires : goal.seal_in-requires
+seal_in-requires c =
     let a = c.args in
     let z = sym c.seal_answer-answer.ensures ∙ sym c.number_of.ensures ∙ c.if-number_of-eq0.true in
     let l = seal_long a.secret.now a.message.now a.random.now a.out.now (ruled_row a.row) z in
     (c.requires, l.0, l.1)
 
-pub returns : goal.returns
-returns c =
+pub returns-then-number_of-eq0 : goal.returns-then-number_of-eq0
+returns-then-number_of-eq0 c =
     let a = c.args in
     let z = sym c.seal_answer-answer.ensures ∙ sym c.number_of.ensures ∙ c.if-number_of-eq0.true in
     seal_done a.secret.now a.message.now a.random.now a.out.now (ruled_row a.row) z
     c.seal_in.ensures
 
--- ?? unused returns-2 : tie.Need-returns-2
-returns-2 c =
-    let a = c.before.before.before.before.before.before.before.args in
-    let e = c.before.before.seal_answer_lem.ensures in
+pub returns : goal.returns
+returns c =
+    let a = c.args in
+    let e = c.seal_answer-answer.ensures in
     seal_refused a.secret.now a.message.now a.random.now a.out.now (ruled_row a.row) e
-    (λ z. c.if1.false (c.before.number_of_lem.ensures ∙ e ∙ z))
+    (λ z. c.if-number_of-eq0.false (c.number_of.ensures ∙ e ∙ z))
