@@ -108,12 +108,8 @@ module _ (set : ℕ) (secret message random out : Bytes) (a : Answer) (out-after
 module _ (set : ℕ) (public message seal : Bytes) (v : Verdict)
     (checked : Checked (row_of set) public message seal v) where
   -- "gives a numbered refusal exactly when the paper says so"; when it is 0, `accepted_exactly` says.
-<<<<<<< ours
-  pub check_answer_lem : (c : ℕ) → (number v.answer ≡ c) ↔ Given (Applies (check_lines (row_of set) public message seal)) c
-=======
   pub check_answer_lem : (c : ℕ)
       → (number v.answer ≡ c) ↔ Given (Applies (check_lines (row_of set) public message seal)) c
->>>>>>> theirs
   unfolding ordered none_before
   check_answer_lem =
       answer_given (check_lines (row_of set) public message seal) refl (number v.answer) checked.answered
