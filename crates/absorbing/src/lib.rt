@@ -11,7 +11,7 @@ use permutation::permute;
 // Past the rate the lanes are permuted, and the next byte's place is the first.
 pub fn turn(s: &mut [u64; 25], rate: usize, at: usize) -> usize
     requires { Rate rate }
-    ensures result_after { sponge s.new result ≡ turned rate (sponge s.old at) }
+    ensures state_after { sponge s.new result ≡ turned rate (sponge s.old at) }
     ensures upper_bound { result < rate }
 {
     if at >= rate {
@@ -55,8 +55,8 @@ fn lane_at(m: &[u8], i: usize) -> u64
 // A lane goes in where the place is its first byte and eight are left, else one byte. Returns how many.
 fn absorb_next(s: &mut [u64; 25], rate: usize, at: usize, m: &[u8], i: usize) -> usize
     requires { Rate rate × (at < rate) × (i < length m.now) }
-    ensures result_nonzero { (0 < result) × (i + result ≤ length m.now) × (at + result ≤ rate) }
-    ensures result_after { sponge s.new (at + result)
+    ensures taken { (0 < result) × (i + result ≤ length m.now) × (at + result ≤ rate) }
+    ensures state_after { sponge s.new (at + result)
         ≡ feed rate (sponge s.old at) (take result (drop i m.now)) }
 {
     if at % 8 == 0 {

@@ -33,7 +33,7 @@ pub fn chain_in(
     requires { (length io.old ≡ kit.n) × (start + steps < 16) }
     ensures io_after { io.new ≡ (chain (hashes_of kit seed.now)
         (chain_step spot.layer spot.tree spot.pair c) io.old start steps).result }
-    ensures value { result ≡ count (Kind.of Function.F) (chain (hashes_of kit seed.now)
+    ensures f_calls { result ≡ count (Kind.of Function.F) (chain (hashes_of kit seed.now)
         (chain_step spot.layer spot.tree spot.pair c) io.old start steps).calls }
 {
     let layer = spot.layer;

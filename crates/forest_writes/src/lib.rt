@@ -50,7 +50,7 @@ pub fn forest_seal_in(
     out: &mut [u8],
 )
     requires wood { Wood kit.n a (length ds.now) (length out.old) × Below (2 ^ a) ds.now }
-    requires a_bound { (length ds.now + 1) * 2 ^ a ≤ 2 ^ 32 }
+    requires leaves_fit { (length ds.now + 1) * 2 ^ a ≤ 2 ^ 32 }
     ensures { out.new ≡ (forest_seal (hashes_of kit seed.now) tree pair a sk.now 0
         ds.now).result }
 {

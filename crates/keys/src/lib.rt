@@ -37,7 +37,7 @@ fn pair_in(a: &[u8], b: &[u8], out: &mut [u8])
 pub fn keys_in(row: Row, sk: &[u8], prf: &[u8], pk: &[u8], public: &mut [u8], secret: &mut [u8])
     requires ready { Ready (ruled_row row) × (length sk.now ≡ row.n) × (length prf.now ≡ row.n)
         × (length pk.now ≡ row.n) }
-    requires public_len { (length public.old ≡ row.public) × (length secret.old ≡ row.secret) }
+    requires keys_len { (length public.old ≡ row.public) × (length secret.old ≡ row.secret) }
     ensures public_after { public.new ≡ public_key (ruled_row row) (family_for (ruled_row row))
         sk.now pk.now }
     ensures secret_after { secret.new ≡ secret_key (ruled_row row) (family_for (ruled_row row))

@@ -26,8 +26,8 @@ fn layer_seal_over(
     ds: &mut [u32],
     out: &mut [u8],
 )
-    requires n_bound { (kit.n ≤ 32) × (length m.now ≡ kit.n) × (i + 2 ^ hp ≤ 2 ^ 32) }
-    requires ds_len { (length ds.old ≡ chains kit.n)
+    requires sizes { (kit.n ≤ 32) × (length m.now ≡ kit.n) × (i + 2 ^ hp ≤ 2 ^ 32) }
+    requires lent_len { (length ds.old ≡ chains kit.n)
         × (length out.old ≡ chains kit.n * kit.n + hp * kit.n) }
     ensures { out.new ≡ (layer_seal (hashes_of kit seed.now) hp sk.now layer tree i
         m.now).result }

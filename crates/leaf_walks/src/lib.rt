@@ -22,7 +22,7 @@ fn walk_in(kit: Kit, seed: &[u8], spot: Spot, ds: &[u32], io: &mut [u8]) -> u32
     requires { (length io.old ≡ length ds.now * kit.n) × (length ds.now < 2 ^ 16) × Below 16 ds.now }
     ensures io_after { io.new ≡ (walk (hashes_of kit seed.now)
         spot.layer spot.tree spot.pair 0 ds.now io.old).result }
-    ensures value { result ≡ count (Kind.of Function.F) (walk (hashes_of kit seed.now)
+    ensures f_calls { result ≡ count (Kind.of Function.F) (walk (hashes_of kit seed.now)
         spot.layer spot.tree spot.pair 0 ds.now io.old).calls }
 {
     let n = kit.n;
@@ -49,7 +49,7 @@ fn leaf_from_over(
     ends: &mut [u8],
 ) -> Walked
     requires from { From kit (length sig.now) (length m.now) }
-    requires ds_len { (length ds.old ≡ chains kit.n) × (length ends.old ≡ chains kit.n * kit.n) }
+    requires lent_len { (length ds.old ≡ chains kit.n) × (length ends.old ≡ chains kit.n * kit.n) }
     ensures { Leads kit.n (leaf_from (hashes_of kit seed.now)
         spot.layer spot.tree spot.pair sig.now m.now) result }
 {

@@ -56,8 +56,8 @@ fn part_answer_under(row: Row, seal: &[u8], number: u32) -> Answer
 // The part under a known set.
 fn part_under(row: Row, seal: &[u8], number: u32) -> &[u8]
     requires { Ready (ruled_row row) }
-    ensures result_value { result.now ≡ part_given (some (ruled_row row)) seal.now number }
-    ensures ref_ptr_value { result.ref_ptr ≡ byte_at seal.entry.ref_ptr
+    ensures bytes { result.now ≡ part_given (some (ruled_row row)) seal.now number }
+    ensures place { result.ref_ptr ≡ byte_at seal.entry.ref_ptr
         (start_given (some (ruled_row row)) seal.now number) }
 {
     let answer = part_answer_under(row, seal, number);
@@ -82,8 +82,8 @@ pub fn part_answer(set: u32, seal: &[u8], number: u32) -> Answer
 
 // The part of a seal, as it lies there: the lent memory itself. Empty with every refusal.
 pub fn part(set: u32, seal: &[u8], number: u32) -> &[u8]
-    ensures result_value { result.now ≡ part_given (row_of set) seal.now number }
-    ensures ref_ptr_value { result.ref_ptr ≡ byte_at seal.entry.ref_ptr (start_given (row_of set) seal.now number) }
+    ensures bytes { result.now ≡ part_given (row_of set) seal.now number }
+    ensures place { result.ref_ptr ≡ byte_at seal.entry.ref_ptr (start_given (row_of set) seal.now number) }
 {
     let found = find_row(set);
     match found {

@@ -17,8 +17,8 @@ use rows::Row;
 // The mixed-in bytes (line 2): the randomizer input, or where it is empty the secret key's public seed. They are the
 // lent memory itself.
 fn mixed_in<'a>(random: &'a [u8], seed: &'a [u8]) -> &'a [u8]
-    ensures result_value { result.now ≡ mixed_in random.now seed.now }
-    ensures ref_ptr_value { result.ref_ptr ≡ chosen (length random.now) random.entry.ref_ptr seed.entry.ref_ptr }
+    ensures bytes { result.now ≡ mixed_in random.now seed.now }
+    ensures place { result.ref_ptr ≡ chosen (length random.now) random.entry.ref_ptr seed.entry.ref_ptr }
 {
     if random.len() == 0 { seed } else { random }
 }
@@ -61,7 +61,7 @@ pub fn randomized_aim<'a>(
     ensures out_after { out.new ≡ (randomizer_of (ruled_row row) (family_for (ruled_row row)) prf.now
         (mixed_in random.now seed.now)
         (head.now ++ (context.now ++ message.now))).result }
-    ensures indices_after { at result indices.new ≡ pointed (ruled_row row) (digest_of (ruled_row row)
+    ensures aimed { at result indices.new ≡ pointed (ruled_row row) (digest_of (ruled_row row)
         (family_for (ruled_row row)) out.new seed.now root.now
         (head.now ++ (context.now ++ message.now))).result }
 {

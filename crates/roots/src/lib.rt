@@ -21,7 +21,7 @@ use rows::sizes::forest_bytes;
 // From the forest's part to what layer 0 seals, and from there up all layers.
 pub fn root_at(row: Row, seed: &[u8], pointed: Pointed, indices: &[u32], seal: &[u8]) -> Walked
     requires ready { Ready (ruled_row row) × (length seal.now ≡ row.seal) }
-    requires indices_len { (length indices.now ≡ row.k) × Below (2 ^ row.a) indices.now }
+    requires indices_fit { (length indices.now ≡ row.k) × Below (2 ^ row.a) indices.now }
     ensures { Leads row.n (root_at (ruled_row row) (family_for (ruled_row row)) seed.now
         seal.now (at pointed indices.now)) result }
 {

@@ -26,7 +26,7 @@ pub fn finish(s: &mut [u64; 25], at: usize) -> usize
 
 // Squeezes the next bytes into the whole of out.
 pub fn squeeze(s: &mut [u64; 25], at: usize, out: &mut [u8]) -> usize
-    ensures result_after { sponge s.new result
+    ensures state_after { sponge s.new result
         ≡ drawn rate256 (length out.old) (sponge s.old at) }
     ensures out_after { out.new ≡ draw rate256 (length out.old) (sponge s.old at) }
 {

@@ -32,7 +32,7 @@ fn put_lane(w: u64, out: &mut [u8], i: usize)
 // A lane comes out where the place is its first byte and there is room for eight, else one byte. Returns how many.
 fn squeeze_next(s: &[u64; 25], rate: usize, at: usize, out: &mut [u8], i: usize) -> usize
     requires { Rate rate × (at < rate) × (i < length out.old) }
-    ensures result_nonzero { (0 < result) × (i + result ≤ length out.old) × (at + result ≤ rate) }
+    ensures written { (0 < result) × (i + result ≤ length out.old) × (at + result ≤ rate) }
     ensures out_after { take (i + result) out.new
         ≡ take i out.old ++ draw rate result (sponge s.now at) }
 {
@@ -50,7 +50,7 @@ fn squeeze_next(s: &[u64; 25], rate: usize, at: usize, out: &mut [u8], i: usize)
 // Squeezes the next bytes into the whole of out.
 pub fn squeeze(s: &mut [u64; 25], rate: usize, at: usize, out: &mut [u8]) -> usize
     requires { Rate rate }
-    ensures result_after { sponge s.new result ≡ drawn rate (length out.old) (sponge s.old at) }
+    ensures state_after { sponge s.new result ≡ drawn rate (length out.old) (sponge s.old at) }
     ensures out_after { out.new ≡ draw rate (length out.old) (sponge s.old at) }
 {
     let mut p = at;

@@ -43,12 +43,12 @@ pub fn roots_in(
     sig: &[u8],
     out: &mut [u8],
 ) -> u32
-    requires n_bound { (kit.n ≤ 32) × (size ≡ 2 ^ a) × (length ds.now * size < 2 ^ 32) × Below size ds.now }
-    requires sig_len { (length sig.now ≡ length ds.now * (kit.n + a * kit.n))
+    requires sizes { (kit.n ≤ 32) × (size ≡ 2 ^ a) × (length ds.now * size < 2 ^ 32) × Below size ds.now }
+    requires lent_len { (length sig.now ≡ length ds.now * (kit.n + a * kit.n))
         × (length out.old ≡ length ds.now * kit.n) × (length ds.now ≤ 35) }
     ensures out_after { out.new ≡ (forest_walk (hashes_of kit seed.now) tree pair a 0
         ds.now sig.now).result }
-    ensures value { result ≡ count (Kind.of Function.F) (forest_walk (hashes_of kit seed.now) tree pair a 0
+    ensures f_calls { result ≡ count (Kind.of Function.F) (forest_walk (hashes_of kit seed.now) tree pair a 0
         ds.now sig.now).calls }
 {
     let n = kit.n;

@@ -30,7 +30,7 @@ fn forest_up_in(
     out: &mut [u8],
 ) -> [u8; 32]
     requires ready { Ready (ruled_row row) × (length out.old ≡ forest_size (ruled_row row)) }
-    requires indices_len { (length indices.now ≡ row.k) × Below (2 ^ row.a) indices.now }
+    requires indices_fit { (length indices.now ≡ row.k) × Below (2 ^ row.a) indices.now }
     ensures out_after { out.new ≡ (forest_seal (under (family_for (ruled_row row)) seed.now)
         pointed.tree pointed.leaf row.a sk.now 0 indices.now).result }
     ensures result_value { take row.n result ≡ (forest_root (under (family_for (ruled_row row)) seed.now)
@@ -84,7 +84,7 @@ pub fn written_in(
     out: &mut [u8],
 )
     requires ready { Ready (ruled_row row) × (length out.old + row.n ≡ row.seal) }
-    requires indices_len { (length indices.now ≡ row.k) × Below (2 ^ row.a) indices.now × (pointed.leaf < 2 ^ row.hp) }
+    requires aim_fits { (length indices.now ≡ row.k) × Below (2 ^ row.a) indices.now × (pointed.leaf < 2 ^ row.hp) }
     ensures { out.new ≡ (written (ruled_row row) (family_for (ruled_row row)) sk.now
         seed.now (at pointed indices.now)).result }
 {

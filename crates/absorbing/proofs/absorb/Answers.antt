@@ -19,8 +19,8 @@ loop-i-preserved c =
     let k = sponge a.s.now a.at in (
       omega arith,
       feed_next a.rate (omega arith) k a.m.now l.i g.result (omega arith) (omega arith) l.invariant.1
-          c.turn-p.ensures.result_after
-          g.ensures.result_after,
+          c.turn-p.ensures.state_after
+          g.ensures.state_after,
     )
 
 pub returns : goal.returns

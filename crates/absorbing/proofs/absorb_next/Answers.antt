@@ -17,8 +17,8 @@ returns-then-m-i-ge8 c =
     let p = take 8 (drop a.i a.m.now) in
     let b : Below 256 a.m.now = λ j. (c.shared_slice_known-1.given j).fits in
     let d = below_drop 256 a.i a.m.now b in record {
-      result_nonzero = omega arith;
-      result_after = rw c.lane_at.ensures
+      taken = omega arith;
+      state_after = rw c.lane_at.ensures
           (sym (lane_in a.rate p (below_take 256 8 (drop a.i a.m.now) (omega arith) d)
           (simp (length-take, length-drop) (omega arith)) a.s.now a.at (omega arith) (omega arith)));
     }
@@ -29,7 +29,7 @@ returns c =
     let a = c.args in
     let h : a.i < length a.m.now = omega arith in
     let b = (c.shared_slice_known-2-1.given a.i).fits in record {
-      result_nonzero = omega arith;
-      result_after = rw (drop-cons a.m.now a.i 0 h, c.mix.ensures)
+      taken = omega arith;
+      state_after = rw (drop-cons a.m.now a.i 0 h, c.mix.ensures)
           (sym (byte_in a.rate a.s.now a.at (get_or a.m.now a.i 0) (omega arith) b));
     }

@@ -6,4 +6,4 @@ use Rattle.absorbing.proofs.finish.Goals as goal
 pub returns : goal.returns
 unfolding finish close
 returns c =
-    rw (c.mix-2.ensures, c.mix.ensures, ← c.turn-p.ensures.result_after)
+    rw (c.mix-2.ensures, c.mix.ensures, ← c.turn-p.ensures.state_after)

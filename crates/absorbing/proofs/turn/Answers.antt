@@ -10,7 +10,7 @@ pub returns-then-at-rate : goal.returns-then-at-rate
 returns-then-at-rate c =
     let a = c.args in
     record {
-      result_after = rw c.permute.ensures (sym (turn_yes a.rate (sponge a.s.now a.at) (omega arith)));
+      state_after = rw c.permute.ensures (sym (turn_yes a.rate (sponge a.s.now a.at) (omega arith)));
       upper_bound = omega arith;
     }
 
@@ -18,6 +18,6 @@ pub returns : goal.returns
 returns c =
     let a = c.args in
     record {
-      result_after = sym (turn_no a.rate (sponge a.s.now a.at) (omega arith));
+      state_after = sym (turn_no a.rate (sponge a.s.now a.at) (omega arith));
       upper_bound = omega arith;
     }

@@ -34,7 +34,7 @@ returns c =
     let place = chain_step a.spot.layer a.spot.tree a.spot.pair a.c in
     let end : l.k ≡ a.steps = omega arith in record {
       io_after = sym (chain_end w place (a.start + l.k) a.steps l.k l.io (omega arith)) ∙ l.invariant.2;
-      value = end ∙ chain_calls w place a.io.now a.start a.steps;
+      f_calls = end ∙ chain_calls w place a.io.now a.start a.steps;
     }
 
 pub shape_of-io : goal.shape_of-io

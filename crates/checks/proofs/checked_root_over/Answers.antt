@@ -14,7 +14,7 @@ root_at-requires c =
     let q = in_key (ruled_row c.args.row) c.requires.0.legal _ c.aim-pointed.ensures in
      record {
       ready = (c.requires.0, c.requires.2);
-      indices_len = (q.indices_long, q.indices_below);
+      indices_fit = (q.indices_long, q.indices_below);
     }
 
 pub returns : goal.returns

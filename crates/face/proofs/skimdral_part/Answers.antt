@@ -5,7 +5,7 @@ use Rattle.face.proofs.skimdral_part.Goals as goal
 
 pub returns : goal.returns
 returns c = record {
-  value = c.number_of.ensures ∙ c.part_answer-answer.ensures;
+  answer = c.number_of.ensures ∙ c.part_answer-answer.ensures;
   start_after = c.part_extent-extent.ensures.start_value;
   length_after = c.part_extent-extent.ensures.length_value;
 }

@@ -11,8 +11,8 @@ roots_in-calls-requires c =
     let wood = c.requires.wood.0 in
     let e = one_shifted c.args.a 32 wood.low in
      record {
-      n_bound = (wood.small, e, rw e wood.leaves, rw e c.requires.wood.1);
-      sig_len = (wood.sig_long, c.requires.roots_len, wood.few);
+      sizes = (wood.small, e, rw e wood.leaves, rw e c.requires.wood.1);
+      lent_len = (wood.sig_long, c.requires.roots_len, wood.few);
     }
 
 pub returns : goal.returns
@@ -22,6 +22,6 @@ returns c =
     record {
       value_is = forest_made w a.tree a.pair a.a a.ds.now a.sig.now
           c.address_at.ensures c.roots_in-calls.ensures.out_after c.t-value.ensures;
-      counted = forest_calls w a.tree a.pair a.a a.ds.now a.sig.now c.roots_in-calls.ensures.value;
+      counted = forest_calls w a.tree a.pair a.a a.ds.now a.sig.now c.roots_in-calls.ensures.f_calls;
       value_long = search rules;
     }

@@ -42,7 +42,7 @@ overflow_add-base c =
     let a = c.args in
     let l = c.loop-j in
     let leaves = leaf_room l.j (length a.ds.now) (2 ^ a.a) l.base c.loop-j-test.true l.invariant.1
-    c.requires.a_bound in
+    c.requires.leaves_fit in
     omega (arith, leaves, c.requires.wood.1 l.j)
 
 pub slice_bounds-tree_seal_in-end : goal.slice_bounds-tree_seal_in-end
@@ -62,7 +62,7 @@ tree_seal_in-requires c =
     let many = length a.ds.now in
     let room = part_room l.j many step.result l.at c.loop-j-test.true l.invariant.2
     (filled many step.result l.invariant.3 c.requires.wood.0.sig_long step.ensures) in
-    let leaves = leaf_room l.j many (2 ^ a.a) l.base c.loop-j-test.true l.invariant.1 c.requires.a_bound in (
+    let leaves = leaf_room l.j many (2 ^ a.a) l.base c.loop-j-test.true l.invariant.1 c.requires.leaves_fit in (
       c.requires.wood.0.small,
       lent_length l.at step.result l.out room ∙ step.ensures,
       omega (arith, leaves, c.requires.wood.1 l.j),
@@ -73,7 +73,7 @@ overflow_add-base-in-loop-j c =
     let a = c.args in
     let l = c.loop-j in
     let leaves = leaf_room l.j (length a.ds.now) (2 ^ a.a) l.base c.loop-j-test.true l.invariant.1
-    c.requires.a_bound in
+    c.requires.leaves_fit in
     omega (arith, leaves, c.requires.wood.1 l.j, one_shifted a.a 32 c.requires.wood.0.low)
 
 pub loop-j-preserved : goal.loop-j-preserved

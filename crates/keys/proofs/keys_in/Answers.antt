@@ -24,7 +24,7 @@ pair_in-requires c =
     let root_long : let n = c.args.row.n in
     length (take n c.key_root-root.result) ≡ n =
     length-take-le c.args.row.n c.key_root-root.result (search rules) in
-    omega (arith, root_long, c.requires.ready.3, c.requires.public_len.0, c.requires.ready.0.legal.public_long)
+    omega (arith, root_long, c.requires.ready.3, c.requires.keys_len.0, c.requires.ready.0.legal.public_long)
 
 pub slice_bounds-pair_in-end-3 : goal.slice_bounds-pair_in-end-3
 slice_bounds-pair_in-end-3 c =
@@ -38,7 +38,7 @@ pair_in-requires-3 c =
     let root_long : let n = c.args.row.n in
     length (take n c.key_root-root.result) ≡ n =
     length-take-le c.args.row.n c.key_root-root.result (search rules) in
-    omega (arith, root_long, c.requires.ready.3, c.requires.public_len.1, c.requires.ready.0.legal.secret_long)
+    omega (arith, root_long, c.requires.ready.3, c.requires.keys_len.1, c.requires.ready.0.legal.secret_long)
 
 pub returns : goal.returns
 returns c =
@@ -46,7 +46,7 @@ returns c =
     let r = ruled_row a.row in
     let e = c.key_root-root.ensures in
     let long = c.pair_in-2.auto.out ∙ front_long (2 * a.row.n) a.secret.now
-    (omega (arith, c.requires.public_len.1, c.requires.ready.0.legal.secret_long)) in record {
+    (omega (arith, c.requires.keys_len.1, c.requires.ready.0.legal.secret_long)) in record {
       public_after = public_made r (family_for r) a.sk.now a.pk.now e c.pair_in.ensures;
       secret_after = secret_made r (family_for r) a.sk.now a.pk.now e (2 * a.row.n) a.prf.now a.secret.now long
           c.pair_in-2.ensures c.pair_in-3.ensures;

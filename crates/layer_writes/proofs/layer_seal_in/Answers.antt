@@ -10,6 +10,6 @@ layer_seal_over-requires c =
     let many = c.chain_count-len.ensures in
     let long = zeros_part c.chain_count-len.result 67 (omega (arith, many, c.requires.0)) ∙ many in
     record {
-      n_bound = (c.requires.0, c.requires.1, c.requires.2);
-      ds_len = (long, c.requires.3);
+      sizes = (c.requires.0, c.requires.1, c.requires.2);
+      lent_len = (long, c.requires.3);
     }

@@ -31,11 +31,11 @@ pub shown_in-requires : goal.shown_in-requires
 shown_in-requires c =
     let a = c.args in
     let n = a.kit.n in
-    let now = read n c.chain_bytes-size.result a.hp a.m.now a.out.now c.requires.n_bound.1
-    c.chain_digits.ensures (c.chain_digits.auto.out ∙ c.requires.ds_len.0) c.chain_bytes-size.ensures
-    c.requires.ds_len.1 in (
+    let now = read n c.chain_bytes-size.result a.hp a.m.now a.out.now c.requires.sizes.1
+    c.chain_digits.ensures (c.chain_digits.auto.out ∙ c.requires.lent_len.0) c.chain_bytes-size.ensures
+    c.requires.lent_len.1 in (
       now.front ∙ c.chain_bytes-size.ensures ∙ ap (λ x. x * n) (sym now.many),
-      omega (arith, now.many, c.requires.n_bound.0),
+      omega (arith, now.many, c.requires.sizes.0),
       rw now.digits (chain_digits_below n a.m.now),
     )
 
@@ -43,8 +43,8 @@ pub returns : goal.returns
 returns c =
     let a = c.args in
     let size = c.chain_bytes-size.result in
-    let now = read a.kit.n size a.hp a.m.now a.out.now c.requires.n_bound.1
-    c.chain_digits.ensures (c.chain_digits.auto.out ∙ c.requires.ds_len.0) c.chain_bytes-size.ensures
-    c.requires.ds_len.1 in
+    let now = read a.kit.n size a.hp a.m.now a.out.now c.requires.sizes.1
+    c.chain_digits.ensures (c.chain_digits.auto.out ∙ c.requires.lent_len.0) c.chain_bytes-size.ensures
+    c.requires.lent_len.1 in
     layer_written (hashes_of a.kit a.seed.now) a.hp a.sk.now a.layer a.tree a.i size a.m.now a.out.now
     (c.shown_in.auto.out ∙ now.front) now.digits c.shown_in.ensures c.path_in.ensures

@@ -17,7 +17,7 @@ leaf_from_over-requires c =
     let fits = size_fits c.args.kit.n c.requires.small in
     record {
       from = c.requires;
-      ds_len = (
+      lent_len = (
         zeros_part c.chain_count-len.result 67 (omega (arith, many, c.requires.small)) ∙ many,
         zeros_part c.chain_bytes-size.result 2144 (omega (arith, long, fits)) ∙ long,
       );

@@ -13,9 +13,9 @@ use Rattle.leaf_walks.proofs.leaf_from_over.Goals as goal
 pub walk_in-calls-requires : goal.walk_in-calls-requires
 walk_in-calls-requires c =
     let n = c.args.kit.n in
-    let many = c.chain_digits.auto.out ∙ c.requires.ds_len.0 in
+    let many = c.chain_digits.auto.out ∙ c.requires.lent_len.0 in
     let ds = c.chain_digits.ensures ∙ ap (λ k. chain_digits k c.args.m.now) c.requires.from.value_long in (
-      c.put-e.auto.out ∙ c.requires.ds_len.1 ∙ ap (λ x. x * n) (sym many),
+      c.put-e.auto.out ∙ c.requires.lent_len.1 ∙ ap (λ x. x * n) (sym many),
       omega (arith, many, c.requires.from.small),
       rw ds (chain_digits_below n c.args.m.now),
     )
@@ -27,12 +27,12 @@ returns c =
     let w = hashes_of a.kit a.seed.now in
     let ds = c.chain_digits.ensures ∙ ap (λ k. chain_digits k a.m.now) c.requires.from.value_long in
     let sig =
-    put_whole a.ends.now a.sig.now _ _ (c.requires.ds_len.1 ∙ sym c.requires.from.sig_long) put.auto.out
+    put_whole a.ends.now a.sig.now _ _ (c.requires.lent_len.1 ∙ sym c.requires.from.sig_long) put.auto.out
     put.ensures in
     let value =
     from_made w a.spot.layer a.spot.tree a.spot.pair a.sig.now a.m.now ds sig
     c.walk_in-calls.ensures.io_after c.compress-value.ensures in
     let calls =
     from_calls w a.spot.layer a.spot.tree a.spot.pair a.sig.now a.m.now _ ds
-    c.walk_in-calls.ensures.value in
+    c.walk_in-calls.ensures.f_calls in
     record { value_is = value; counted = calls; value_long = search rules }

@@ -28,7 +28,7 @@ chain_in-calls-requires c =
 pub overflow_add-calls : goal.overflow_add-calls
 overflow_add-calls c =
     let made : c.chain_in-calls.result ≡ 15 - get_or c.args.ds.now c.loop-i.i 0 =
-    c.chain_in-calls.ensures.value ∙ sym (chain_calls _ _ _ _ _) in
+    c.chain_in-calls.ensures.f_calls ∙ sym (chain_calls _ _ _ _ _) in
     let l = c.loop-i in
     omega (
       arith,
@@ -44,7 +44,7 @@ loop-i-preserved c =
     let room : c.loop-i.at + c.args.kit.n ≤ length c.loop-i.io =
     omega (arith, piece_room c.loop-i.i (length c.args.ds.now) c.args.kit.n c.loop-i-test.true, c.requires.0) in
     let made : c.chain_in-calls.result ≡ 15 - get_or c.args.ds.now c.loop-i.i 0 =
-    c.chain_in-calls.ensures.value ∙ sym (chain_calls _ _ _ _ _) in
+    c.chain_in-calls.ensures.f_calls ∙ sym (chain_calls _ _ _ _ _) in
     let l = c.loop-i in
     let a = c.args in
     let n = a.kit.n in
@@ -73,7 +73,7 @@ returns c =
     record {
       io_after = walk_end w a.spot.layer a.spot.tree a.spot.pair a.ds.now l.i l.io (drop l.at l.io)
           (omega arith) (rw (take_all l.at l.io full) at l.invariant.3);
-      value = (omega (arith, l.invariant.4, steps_end a.ds.now l.i (omega arith)))
+      f_calls = (omega (arith, l.invariant.4, steps_end a.ds.now l.i (omega arith)))
           ∙ walk_calls w a.spot.layer a.spot.tree a.spot.pair a.ds.now a.io.now;
     }
 

@@ -13,7 +13,7 @@ keys_in-requires c =
     let l = keys_long a.sk.now a.prf.now a.pk.now a.public.now a.secret.now (ruled_row a.row) z in
     record {
       ready = (c.requires, l.s_long, l.p_long, l.q_long);
-      public_len = (l.public_long, l.secret_long);
+      keys_len = (l.public_long, l.secret_long);
     }
 
 pub returns-then-number_of-eq0 : goal.returns-then-number_of-eq0

@@ -17,8 +17,8 @@ returns-in-Is c =
     let a = c.args in
     let under = c.part_under.ensures in
     let both = part_by (row_found c.in-Is.is c.find_row-found.ensures)
-        a.seal.now a.number a.seal.ref_ptr (under.result_value, under.ref_ptr_value) in
-    record { result_value = both.0; ref_ptr_value = both.1 }
+        a.seal.now a.number a.seal.ref_ptr (under.bytes, under.place) in
+    record { bytes = both.0; place = both.1 }
 
 pub returns-in-Unknown : goal.returns-in-Unknown
 returns-in-Unknown c =
@@ -28,4 +28,4 @@ returns-in-Unknown c =
           (part_unknown a.seal.now a.number).1,
           ap (byte_at a.seal.ref_ptr) (extent_unknown a.seal.now a.number).0,
         ) in
-    record { result_value = both.0; ref_ptr_value = both.1 }
+    record { bytes = both.0; place = both.1 }

@@ -18,8 +18,8 @@ returns-then-number_of-ne0 c =
     let refused : part_answer (some (ruled_row a.row)) a.seal.now a.number ≡ 0 → ⊥ =
         λ z. c.if-number_of-ne0.true (c.number_of.ensures ∙ e ∙ z) in
     record {
-      result_value = part_refused a.seal.now a.number (ruled_row a.row) refused;
-      ref_ptr_value = ap (byte_at a.seal.ref_ptr) (extent_refused a.seal.now a.number (ruled_row a.row) refused).0;
+      bytes = part_refused a.seal.now a.number (ruled_row a.row) refused;
+      place = ap (byte_at a.seal.ref_ptr) (extent_refused a.seal.now a.number (ruled_row a.row) refused).0;
     }
 
 -- Where the part is read, every test has passed.
@@ -60,7 +60,7 @@ returns c =
     let long = c.part_length.ensures in
     let z = sym c.part_answer_under-answer.ensures ∙ sym c.number_of.ensures ∙ c.if-number_of-ne0.false in
     record {
-      result_value = ap₂ (λ x y. take (x + y - x) (drop x a.seal.now)) start long
+      bytes = ap₂ (λ x y. take (x + y - x) (drop x a.seal.now)) start long
           ∙ part_read a.seal.now a.number (ruled_row a.row) z;
-      ref_ptr_value = ap (byte_at a.seal.ref_ptr) (extent_read a.seal.now a.number (ruled_row a.row) z start long).0;
+      place = ap (byte_at a.seal.ref_ptr) (extent_read a.seal.now a.number (ruled_row a.row) z start long).0;
     }

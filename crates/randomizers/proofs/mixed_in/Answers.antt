@@ -8,14 +8,14 @@ pub returns-then-random-eq0 : goal.returns-then-random-eq0
 returns-then-random-eq0 c =
     let a = c.args in
     record {
-      result_value = mixed_none a.random.now a.seed.now c.if-random-eq0.true;
-      ref_ptr_value = chosen_none (length a.random.now) a.random.ref_ptr a.seed.ref_ptr c.if-random-eq0.true;
+      bytes = mixed_none a.random.now a.seed.now c.if-random-eq0.true;
+      place = chosen_none (length a.random.now) a.random.ref_ptr a.seed.ref_ptr c.if-random-eq0.true;
     }
 
 pub returns-else-random-eq0 : goal.returns-else-random-eq0
 returns-else-random-eq0 c =
     let a = c.args in
     record {
-      result_value = mixed_some a.random.now a.seed.now c.if-random-eq0.false;
-      ref_ptr_value = chosen_some (length a.random.now) a.random.ref_ptr a.seed.ref_ptr c.if-random-eq0.false;
+      bytes = mixed_some a.random.now a.seed.now c.if-random-eq0.false;
+      place = chosen_some (length a.random.now) a.random.ref_ptr a.seed.ref_ptr c.if-random-eq0.false;
     }

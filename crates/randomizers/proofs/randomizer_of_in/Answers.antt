@@ -16,5 +16,5 @@ returns c =
     let a = c.args in
     let r = ruled_row a.row in
     randomizer_made r (family_for r) a.prf.now (mixed_in a.random.now a.seed.now)
-    (a.head.now ++ (a.context.now ++ a.message.now)) c.mixed_in-mixed.ensures.result_value
+    (a.head.now ++ (a.context.now ++ a.message.now)) c.mixed_in-mixed.ensures.bytes
     (rw c.kit_of-kit.ensures at c.randomizer_in.ensures)

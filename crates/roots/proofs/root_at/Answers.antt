@@ -25,7 +25,7 @@ forest_root-low-requires c =
     let r = ruled_row c.args.row in
     let long = forest_long r c.args.seal.now c.requires.ready.0 c.requires.ready.1 in
     rw (c.kit_of-kit.ensures, c.forest_bytes.ensures)
-    (wood r c.requires.ready.0 _ _ c.requires.indices_len.0 long, c.requires.indices_len.1)
+    (wood r c.requires.ready.0 _ _ c.requires.indices_fit.0 long, c.requires.indices_fit.1)
 
 pub overflow_shl-size : goal.overflow_shl-size
 overflow_shl-size c =
@@ -55,7 +55,7 @@ overflow_add-result c =
     let f = c.forest_bytes.ensures in
     record {
       fits = few_calls r (family_for r) a.seed.now a.seal.now c.requires.ready.0 c.requires.ready.1 a.indices.now
-          c.requires.indices_len.0 _ _ _ _ _ (rw (e, f) at c.forest_root-low.ensures.counted)
+          c.requires.indices_fit.0 _ _ _ _ _ (rw (e, f) at c.forest_root-low.ensures.counted)
           (rw (e, f) at c.layers_root-top.ensures.counted);
     }
 

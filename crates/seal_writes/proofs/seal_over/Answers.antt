@@ -55,12 +55,12 @@ written_in-requires c =
     let r = ruled_row a.row in
     let aim = c.randomized_aim-pointed in
     let now = begun r a.out.now c.requires.0 c.requires.2 aim.auto.out in
-    let q = in_key r c.requires.0.legal _ aim.ensures.indices_after in
+    let q = in_key r c.requires.0.legal _ aim.ensures.aimed in
     let whole : Bytes = put_mid 0 (a.row.n - 0) a.out.now aim.new.out in
     let rest = rest_long a.row.n whole now.room in
     record {
       ready = (c.requires.0, rest ∙ now.whole_long ∙ c.requires.2);
-      indices_len = (q.indices_long, q.indices_below, q.leaf_lt);
+      aim_fits = (q.indices_long, q.indices_below, q.leaf_lt);
     }
 
 pub returns : goal.returns
@@ -71,4 +71,4 @@ returns c =
     let aim = c.randomized_aim-pointed in
     let now = begun r a.out.now c.requires.0 c.requires.2 aim.auto.out in
     seal_made r (family_for r) a.sk.now a.seed.now a.root.now M a.out.now now.part_long
-    aim.ensures.out_after aim.ensures.indices_after c.written_in.ensures
+    aim.ensures.out_after aim.ensures.aimed c.written_in.ensures

@@ -28,8 +28,8 @@ loop-i-preserved c =
       omega (arith, g.auto.out),
       g.auto.out ∙ l.invariant.1,
       drawn_next a.rate z k t.new.s t.result l.i n (omega arith) (omega arith) l.invariant.2
-          t.ensures.result_after,
-      draw_next a.rate z k l.i n (omega arith) l.invariant.2 t.ensures.result_after l.invariant.3 g.ensures.out_after,
+          t.ensures.state_after,
+      draw_next a.rate z k l.i n (omega arith) l.invariant.2 t.ensures.state_after l.invariant.3 g.ensures.out_after,
     )
 
 pub returns : goal.returns
@@ -40,6 +40,6 @@ returns c =
     let e : l.i ≡ length a.out.now = omega arith in
     let o = sym (take_all _ _ c.loop-i-test.false) ∙ l.invariant.3 in
     record {
-      result_after = l.invariant.2 ∙ ap (λ (n : ℕ). drawn a.rate n k) e;
+      state_after = l.invariant.2 ∙ ap (λ (n : ℕ). drawn a.rate n k) e;
       out_after = o ∙ ap (λ (n : ℕ). draw a.rate n k) e;
     }

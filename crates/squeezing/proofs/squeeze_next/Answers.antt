@@ -15,7 +15,7 @@ pub returns-then-out-i-ge8 : goal.returns-then-out-i-ge8
 returns-then-out-i-ge8 c =
     let a = c.args in
     let e = lane_out a.rate a.s.now a.at (omega arith) (omega arith) in record {
-      result_nonzero = omega arith;
+      written = omega arith;
       out_after = c.put_lane.ensures ∙ ap (λ (l : List ℕ). take a.i a.out.now ++ l) (sym e);
     }
 
@@ -24,7 +24,7 @@ unfolding byte_of
 returns c =
     let a = c.args in
     let o = a.out.now in record {
-      result_nonzero = omega arith;
+      written = omega arith;
       out_after = ap (λ (n : ℕ). take n (set o a.i c.low.result)) (add-one a.i)
           ∙ take-suc-set o a.i c.low.result (omega arith)
           ∙ ap (λ (x : ℕ). take a.i o ++ (x ∷ [])) c.low.ensures

@@ -32,7 +32,7 @@ overflow_add-e c =
     let l = c.loop-j in
     let step = c.tree_bytes-step in
     let room = part_left l.j (length c.args.ds.now) step.result l.at c.loop-j-test.true l.invariant.2
-    c.requires.sig_len.0 step.ensures in
+    c.requires.lent_len.0 step.ensures in
     omega (arith, room)
 
 -- The digit of a turn is below the number of a tree's leaves, and there is room for its leaves' numbers.
@@ -44,8 +44,8 @@ overflow_add-base c =
       arith,
       piece_room l.j (length a.ds.now) a.size c.loop-j-test.true,
       l.invariant.1,
-      c.requires.n_bound.3 l.j,
-      c.requires.n_bound.2,
+      c.requires.sizes.3 l.j,
+      c.requires.sizes.2,
     )
 
 pub slice_bounds-tree_root-end : goal.slice_bounds-tree_root-end
@@ -53,7 +53,7 @@ slice_bounds-tree_root-end c =
     let l = c.loop-j in
     let step = c.tree_bytes-step in
     let room = part_left l.j (length c.args.ds.now) step.result l.at c.loop-j-test.true l.invariant.2
-    c.requires.sig_len.0 step.ensures in
+    c.requires.lent_len.0 step.ensures in
     omega (arith, room)
 
 pub tree_root-up-requires : goal.tree_root-up-requires
@@ -61,12 +61,12 @@ tree_root-up-requires c =
     let l = c.loop-j in
     let step = c.tree_bytes-step in
     let room = part_left l.j (length c.args.ds.now) step.result l.at c.loop-j-test.true l.invariant.2
-    c.requires.sig_len.0 step.ensures in
-    (c.requires.n_bound.0, lent_length l.at step.result c.args.sig.now room ∙ step.ensures)
+    c.requires.lent_len.0 step.ensures in
+    (c.requires.sizes.0, lent_length l.at step.result c.args.sig.now room ∙ step.ensures)
 
 -- The root that a turn came to has room for n bytes.
 pub slice_bounds-put-end : goal.slice_bounds-put-end
-slice_bounds-put-end c = omega (arith, c.tree_root-up.ensures.value_long, c.requires.n_bound.0)
+slice_bounds-put-end c = omega (arith, c.tree_root-up.ensures.value_long, c.requires.sizes.0)
 
 -- There is room for the root of a turn.
 pub put-o-requires : goal.put-o-requires
@@ -76,7 +76,7 @@ put-o-requires c =
     omega (
       arith,
       piece_room l.j (length a.ds.now) a.kit.n c.loop-j-test.true,
-      c.requires.sig_len.1,
+      c.requires.lent_len.1,
       l.invariant.3,
       l.invariant.4,
       length-take (a.kit.n - 0) c.tree_root-up.result.value,
@@ -88,7 +88,7 @@ overflow_add-calls c =
     let a = c.args in
     let made : c.tree_root-up.result.calls ≡ 1 =
     tree_calls (hashes_of a.kit a.seed.now) a.tree a.pair a.a _ _ c.tree_root-up.ensures.counted in
-    omega (arith, made, c.loop-j.invariant.6, c.requires.sig_len.1)
+    omega (arith, made, c.loop-j.invariant.6, c.requires.lent_len.1)
 
 pub overflow_add-base-in-loop-j : goal.overflow_add-base-in-loop-j
 overflow_add-base-in-loop-j c =
@@ -97,7 +97,7 @@ overflow_add-base-in-loop-j c =
       arith,
       piece_room l.j (length c.args.ds.now) c.args.size c.loop-j-test.true,
       l.invariant.1,
-      c.requires.n_bound.2,
+      c.requires.sizes.2,
     )
 
 pub loop-j-preserved : goal.loop-j-preserved
@@ -115,9 +115,9 @@ loop-j-preserved c =
     leads_by (ap (tree_run w a.tree a.pair a.a i) (lent l.at step a.sig.now)) c.tree_root-up.ensures in
     let front : take (n - 0) v ≡ take n v = ap (λ k. take k v) (sub-zero n) in
     let long : length (take (n - 0) v) ≡ n = ap length front ∙ length-take-le n v
-    (omega (arith, c.requires.n_bound.0, tree.value_long)) in
+    (omega (arith, c.requires.sizes.0, tree.value_long)) in
     let leaf : i ≡ l.j * 2 ^ a.a + get_or a.ds.now l.j 0 =
-    ap (λ x. x + get_or a.ds.now l.j 0) (l.invariant.1 ∙ ap (λ x. l.j * x) c.requires.n_bound.1) in (
+    ap (λ x. x + get_or a.ds.now l.j 0) (l.invariant.1 ∙ ap (λ x. l.j * x) c.requires.sizes.1) in (
       next_tree l.j (length a.ds.now) c.loop-j-test.true,
       next_place l.j a.size l.invariant.1,
       next_place l.j step l.invariant.2,
@@ -140,10 +140,10 @@ returns c =
     let a = c.args in
     let done : l.j ≡ length a.ds.now = omega arith in
     let ends = ap (λ x. x * a.kit.n) done in
-    let full : length l.out ≤ l.o = omega (arith, l.invariant.3, ends, l.invariant.4, c.requires.sig_len.1) in
+    let full : length l.out ≤ l.o = omega (arith, l.invariant.3, ends, l.invariant.4, c.requires.lent_len.1) in
     let w = hashes_of a.kit a.seed.now in
     record {
       out_after = roots_end w a.tree a.pair a.a a.ds.now l.j l.out (drop l.at a.sig.now) (omega arith)
           (rw (take_all l.o l.out full) at l.invariant.5);
-      value = l.invariant.6 ∙ done ∙ roots_calls w a.tree a.pair a.a a.ds.now a.sig.now;
+      f_calls = l.invariant.6 ∙ done ∙ roots_calls w a.tree a.pair a.a a.ds.now a.sig.now;
     }

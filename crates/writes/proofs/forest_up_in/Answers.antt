@@ -11,10 +11,10 @@ pub forest_seal_in-requires : goal.forest_seal_in-requires
 forest_seal_in-requires c =
     let r = ruled_row c.args.row in
     let ready = c.requires.ready in
-    let many = c.requires.indices_len.0 in
+    let many = c.requires.indices_fit.0 in
     rw c.kit_of-kit.ensures (record {
-      wood = (wood r ready.0 _ _ many ready.1, c.requires.indices_len.1);
-      a_bound = rw many (omega (arith, forest_leaves r ready.0));
+      wood = (wood r ready.0 _ _ many ready.1, c.requires.indices_fit.1);
+      leaves_fit = rw many (omega (arith, forest_leaves r ready.0));
     })
 
 pub forest_root-low-requires : goal.forest_root-low-requires
@@ -22,7 +22,7 @@ forest_root-low-requires c =
     let ready = c.requires.ready in
     let long = c.forest_seal_in.auto.out ∙ ready.1 in
     rw c.kit_of-kit.ensures
-    (wood (ruled_row c.args.row) ready.0 _ _ c.requires.indices_len.0 long, c.requires.indices_len.1)
+    (wood (ruled_row c.args.row) ready.0 _ _ c.requires.indices_fit.0 long, c.requires.indices_fit.1)
 
 pub returns : goal.returns
 returns c =

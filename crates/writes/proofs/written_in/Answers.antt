@@ -35,7 +35,7 @@ forest_up_in-v-requires c =
     let long = forest_long (ruled_row c.args.row) ready.0 c.args.out.now ready.1 _ e in
     record {
       ready = (ready.0, long ∙ e);
-      indices_len = (c.requires.indices_len.0, c.requires.indices_len.1);
+      indices_fit = (c.requires.aim_fits.0, c.requires.aim_fits.1);
     }
 
 -- The layers' parts begin within the bytes lent.
@@ -64,7 +64,7 @@ layers_in-requires c =
     let low = forest r end.result c.args.out.now ready.0 ready.1 end.ensures c.forest_up_in-v.auto.out in
     let whole : Bytes = put_mid 0 (end.result - 0) c.args.out.now c.forest_up_in-v.new.out in
     let long = layers_long r ready.0 whole low.whole_long _ end.ensures in
-    (ready.0, long, c.requires.indices_len.2)
+    (ready.0, long, c.requires.aim_fits.2)
 
 pub returns : goal.returns
 returns c =
