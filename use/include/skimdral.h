@@ -1,5 +1,6 @@
 /*
- * Seals of SLH-DSA (FIPS 205), from the proved library target/staticlib/libface.a (made by `rt staticlib face`).
+ * Seals of SLH-DSA (FIPS 205), from the proved library target/staticlib/libface.a (made by
+ * `tools/static_library face`).
  *
  * Every function tests its own arguments and ends with an answer; with an answer from 1 to 4 or 6 it has changed no
  * byte of a buffer. What is told beside an answer, through f_calls, start and length, is a part of it and written with

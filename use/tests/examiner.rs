@@ -16,9 +16,12 @@ fn is_of_a_word(c: char) -> bool {
     c.is_alphanumeric() || "_'-".contains(c)
 }
 
-/// Adds the files below a folder of `crates/`.
+/// Adds the files below a folder of `crates/`, but for what rt makes there, in the folder `out` of each crate.
 fn add_files(folder: &Path, crates: &Path, texts: &mut Vec<(String, String)>) {
     for entry in fs::read_dir(folder).expect("a folder").map(|entry| entry.expect("an entry").path()) {
+        if folder.parent() == Some(crates) && entry.ends_with("out") {
+            continue;
+        }
         if entry.is_dir() {
             add_files(&entry, crates, texts);
         } else {

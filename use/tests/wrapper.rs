@@ -8,11 +8,12 @@ use std::os::unix::fs::PermissionsExt;
 use std::process::Command;
 use std::time::{Duration, SystemTime};
 
-/// Notes how it was called and makes the library, or fails if there is a file `fails`.
+/// Called in the folder of the library's crate: notes how, and makes the library, or fails if there is a file `fails`.
 const RT: &str = "#!/bin/sh
-echo \"rt $*\" >> calls
-[ ! -e fails ] || exit 1
-echo > target/staticlib/libface.a
+echo \"rt $*\" >> ../../calls
+[ ! -e ../../fails ] || exit 1
+mkdir -p out
+echo > out/libface_c.a
 ";
 
 /// Notes that it was called and makes a tool that shows its words and ends with 5.
@@ -23,22 +24,29 @@ printf '#!/bin/sh\\necho tool \"$@\"; exit 5\\n' > ../use/target/release/skimdra
 chmod +x ../use/target/release/skimdral
 ";
 
-/// A repository with the script, a source, and the stand-ins; the script is run from its folder `elsewhere`.
+/// The file of a source in the repository, the list of crates, and the folders that change when a file comes or goes.
+const SOURCES: [&str; 4] = ["crates/face_c/src/lib.rt", "crates.txt", "crates", "crates/face_c/src"];
+
+/// A repository with the scripts, a source, and the stand-ins; the script is run from its folder `elsewhere`.
 fn repository(name: &str) -> Workplace {
-    let work = Workplace::new(name);
-    for folder in ["crates", "use", "elsewhere", "programs"] {
-        fs::create_dir(work.at(folder)).expect("a folder");
+    let work = Workplace::outside(name);
+    for folder in ["crates/face_c/src", "use", "tools", "elsewhere", "programs"] {
+        fs::create_dir_all(work.at(folder)).expect("a folder");
     }
-    let script = include_bytes!("../../skimdral");
-    for (file, bytes) in
-        [("skimdral", &script[..]), ("programs/rt", RT.as_bytes()), ("programs/cargo", CARGO.as_bytes())]
-    {
+    let [script, maker] = [&include_bytes!("../../skimdral")[..], include_bytes!("../../tools/static_library")];
+    for (file, bytes) in [
+        ("skimdral", script),
+        ("tools/static_library", maker),
+        ("programs/rt", RT.as_bytes()),
+        ("programs/cargo", CARGO.as_bytes()),
+    ] {
         work.put(file, bytes);
         fs::set_permissions(work.at(file), Permissions::from_mode(0o755)).expect("a mode");
     }
-    work.put("crates/lib.rt", b"");
-    work.put("crates.txt", b"");
-    for file in ["crates/lib.rt", "crates.txt", "crates"] {
+    for file in ["crates/face_c/src/lib.rt", "crates.txt"] {
+        work.put(file, b"");
+    }
+    for file in SOURCES {
         date(&work, file, -100);
     }
     work
@@ -66,14 +74,25 @@ fn run(work: &Workplace) -> (i32, String, String) {
 fn builds_what_is_stale() {
     let work = repository("builds_what_is_stale");
     let shown = "tool check a b\n".to_string();
-    assert_eq!(run(&work), (5, shown.clone(), "rt staticlib face\ncargo\n".to_string()));
+    assert_eq!(run(&work), (5, shown.clone(), "rt lib\ncargo\n".to_string()));
     assert_eq!(run(&work), (5, shown.clone(), "cargo\n".to_string()));
-    for file in ["crates/lib.rt", "crates.txt", "crates"] {
+    for file in SOURCES {
         date(&work, file, 100);
-        assert_eq!(run(&work), (5, shown.clone(), "rt staticlib face\ncargo\n".to_string()), "{file}");
+        assert_eq!(run(&work), (5, shown.clone(), "rt lib\ncargo\n".to_string()), "{file}");
         date(&work, file, -100);
     }
     assert_eq!(run(&work), (5, shown, "cargo\n".to_string()));
+}
+
+/// What rt makes beside the sources is none.
+#[test]
+fn what_rt_makes_is_no_source() {
+    let work = repository("what_rt_makes_is_no_source");
+    run(&work);
+    for file in ["crates/face_c/out/libface_c.a", "crates/face_c/out", "crates/face_c"] {
+        date(&work, file, 100);
+        assert_eq!(run(&work).2, "cargo\n", "{file}");
+    }
 }
 
 /// One that somebody else has made, as the gate does, is as good.
@@ -84,19 +103,16 @@ fn a_library_of_others() {
     work.put("target/staticlib/libface.a", b"");
     assert_eq!(run(&work).2, "cargo\n");
     date(&work, "target/staticlib/libface.a", -200);
-    assert_eq!(run(&work).2, "rt staticlib face\ncargo\n");
+    assert_eq!(run(&work).2, "rt lib\ncargo\n");
 }
 
 /// A source that is edited while the library is made counts as newer.
 #[test]
 fn an_edit_meanwhile() {
     let work = repository("an_edit_meanwhile");
-    work.put(
-        "programs/rt",
-        format!("{RT}sleep 0.1; touch crates/lib.rt; sleep 0.1; touch target/staticlib/libface.a").as_bytes(),
-    );
+    work.put("programs/rt", format!("{RT}sleep 0.1; touch src/lib.rt; sleep 0.1; touch out/libface_c.a").as_bytes());
     for _ in 0..2 {
-        assert_eq!(run(&work).2, "rt staticlib face\ncargo\n");
+        assert_eq!(run(&work).2, "rt lib\ncargo\n");
     }
 }
 
@@ -106,8 +122,8 @@ fn an_unproved_library_is_not_used() {
     let work = repository("an_unproved_library_is_not_used");
     run(&work);
     work.put("fails", b"");
-    date(&work, "crates/lib.rt", 100);
+    date(&work, "crates/face_c/src/lib.rt", 100);
     for _ in 0..2 {
-        assert_eq!(run(&work), (69, String::new(), "rt staticlib face\n".to_string()));
+        assert_eq!(run(&work), (69, String::new(), "rt lib\n".to_string()));
     }
 }

@@ -1,5 +1,6 @@
 // SHAKE256 and its permutation for C and Rust programs that measure them.
 #![tactic(auto)]
+
 ghost use Rattle.std.specs.Prelude.{◌≡◌, length};
 ghost use Rattle.keccak.specs.Keccak.{keccak_f};
 ghost use Rattle.shake.specs.Shake.{shake256};

@@ -1,5 +1,6 @@
 // What programs in other languages call: the desk's operations, with answers as the paper's numbers.
 #![tactic(auto)]
+
 ghost use Rattle.rules.specs.Sets.{row_of};
 ghost use Rattle.std.specs.Prelude.{◌≡◌};
 ghost use Rattle.making.specs.Keys.{KeysMade};
@@ -15,8 +16,7 @@ use making::make_keys;
 use part_reading::{part_answer, part_extent};
 use sealing::seal as seal_message;
 
-#[unsafe(no_mangle)]
-pub extern "C" fn skimdral_make_keys(
+pub fn skimdral_make_keys(
     set: u32,
     secret_seed: &[u8],
     prf_seed: &[u8],
@@ -39,8 +39,7 @@ pub extern "C" fn skimdral_make_keys(
     number_of(answer)
 }
 
-#[unsafe(no_mangle)]
-pub extern "C" fn skimdral_seal<'a>(
+pub fn skimdral_seal<'a>(
     set: u32,
     secret_key: &'a [u8],
     message: &[u8],
@@ -55,8 +54,7 @@ pub extern "C" fn skimdral_seal<'a>(
 }
 
 // The F calls are written through f_calls.
-#[unsafe(no_mangle)]
-pub extern "C" fn skimdral_check(
+pub fn skimdral_check(
     set: u32,
     public_key: &[u8],
     message: &[u8],
@@ -73,8 +71,7 @@ pub extern "C" fn skimdral_check(
 }
 
 // Where the part lies in the seal is written through start and length: 0 and 0 with a refusal.
-#[unsafe(no_mangle)]
-pub extern "C" fn skimdral_part(
+pub fn skimdral_part(
     set: u32,
     seal: &[u8],
     number: u32,
@@ -92,8 +89,7 @@ pub extern "C" fn skimdral_part(
     number_of(answer)
 }
 
-#[unsafe(no_mangle)]
-pub extern "C" fn skimdral_digits(set: u32, value: &[u8], digits: &mut [u32]) -> u32
+pub fn skimdral_digits(set: u32, value: &[u8], digits: &mut [u32]) -> u32
     ensures { Numbered result (λ a. DigitsRead (row_of set) value.now digits.old a
         digits.new) }
 {

@@ -39,7 +39,15 @@ impl Run {
 
 impl Workplace {
     pub fn new(name: &str) -> Workplace {
-        let folder = PathBuf::from(env!("CARGO_TARGET_TMPDIR")).join(name);
+        Workplace::of(PathBuf::from(env!("CARGO_TARGET_TMPDIR")).join(name))
+    }
+
+    /// One outside the repository, in which `rt ci` takes every `crates.txt` and Rattle file for its own.
+    pub fn outside(name: &str) -> Workplace {
+        Workplace::of(env::temp_dir().join(format!("skimdral-{}-{name}", std::process::id())))
+    }
+
+    fn of(folder: PathBuf) -> Workplace {
         let _ = fs::remove_dir_all(&folder); // of a run that was killed
         fs::create_dir_all(&folder).expect("a folder");
         Workplace(folder)
