@@ -1,5 +1,5 @@
 //! A row small enough to be worked out by a proof checker, with a stand-in hash: the numbers below stand in
-//! `crates/rules/proofs/Sample.antt` too, where the definitions are proved to give them.
+//! `crates/sample/proofs/Sample.antt` too, where the definitions are proved to give them.
 
 mod common;
 

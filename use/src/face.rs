@@ -3,7 +3,7 @@
 //! They have no demands on their arguments, so these signatures are safe. Most programs want the functions of the
 //! crate's root, which make the outputs themselves.
 
-// The order and types of `crates/face`; `include/skimdral.h` says the same to C. Rattle takes a slice as its first
+// The order and types of `crates/face_c`; `include/skimdral.h` says the same to C. Rattle takes a slice as its first
 // element's address and then its length.
 extern "C" {
     fn skimdral_make_keys(
