@@ -70,7 +70,7 @@ pub extern "C" fn skimdral_part(
     start: &mut usize,
     length: &mut usize,
 ) -> u32
-    ensures value { result ≡ part_answer (row_of set) seal.now number }
+    ensures answer { result ≡ part_answer (row_of set) seal.now number }
     ensures start_after { start.new ≡ start_given (row_of set) seal.now number }
     ensures length_after { length.new ≡ length_given (row_of set) seal.now number }
 {
