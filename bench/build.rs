@@ -12,7 +12,7 @@ fn main() {
         println!("cargo::rerun-if-changed={}", archive.display());
         println!("cargo::rustc-link-lib=static={name}");
         if !archive.exists() {
-            println!("cargo::error=lib{name}.a is missing: make it by `tools/static_library {name}` at the repository's root");
+            println!("cargo::error=lib{name}.a is missing: make it by `tools/static_library {name}` at the top");
         }
     }
 }

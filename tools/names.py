@@ -2,10 +2,11 @@
 """Spells the repository's own definitions and lemmas in snake case: usage, at the top: python3 tools/names.py [--table]
 
 A capital inside a word becomes '_' and a small letter. A dash stays where a function on lists of the library is joined
-to the definition that it is called on, as in length-chain_digits, and is '_' elsewhere. Types, modules and the functions
-that the standards name by a capital (F, H, T, PRF, C, D) keep their names, and so does all that src/ declares. It
-turns .antt files, the clauses of .rt files, must-fail edits, and what pages and comments quote. --table prints the
-names and changes nothing. It stops where two names fall together. Run once, on the output of the kit's port.py.
+to the definition that it is called on, as in length-chain_digits, and is '_' elsewhere. Types, modules and the
+functions that the standards name by a capital (F, H, T, PRF, C, D) keep their names, and so does all that src/
+declares. It turns .antt files, the clauses of .rt files, must-fail edits, and what pages and comments quote. --table
+prints the names and changes nothing. It stops where two names fall together. Run once, on the output of the kit's
+port.py.
 """
 
 import glob
@@ -14,7 +15,8 @@ import sys
 
 WORD = re.compile(r"[^\s(){}.;,@\"«»]+")
 DECLARED = re.compile(
-    r"^ *(?:(?:abbrev|pub|unfoldable|record|data) +)*((?:[^\s(){},:.|λ=]+ +)*[^\s(){},:.|λ=]+)(?: +[({][^=\n]*)? :(?=\s)",
+    r"^ *(?:(?:abbrev|pub|unfoldable|record|data) +)*((?:[^\s(){},:.|λ=]+ +)*[^\s(){},:.|λ=]+)"
+    r"(?: +[({][^=\n]*)? :(?=\s)",
     re.M,
 )
 CAMEL = re.compile(r"[a-zμ][a-z0-9']*(?:[A-Z][A-Za-z0-9']*)+")
@@ -133,7 +135,8 @@ def main():
         return
     if clashes:
         sys.exit(f"names that fall together: {clashes}")
-    code = ["crates/*/specs/**/*.antt", "crates/*/proofs/**/*.antt", "crates/*/src/**/*.rt", "crates/*/must-fail/*.edit"]
+    code = ["crates/*/specs/**/*.antt", "crates/*/proofs/**/*.antt", "crates/*/src/**/*.rt"]
+    code.append("crates/*/must-fail/*.edit")
     pages = ["README.md", "docs/*.md", "second/**/*.rs", "use/**/*.rs", "use/**/*.h", "use/**/*.c", "bench/**/*.rs"]
     for paths, change in ((code, turn), (pages, turn_quoted)):
         for path in sources(paths):

@@ -2,7 +2,8 @@
 -- Assumes nothing.
 use Rattle.std.proofs.Math.Option.{Option, some, none}
 use Rattle.std.specs.Prelude.{cond, ℕ, zero, suc, ltb}
-use Rattle.rules.specs.Places.{Bytes, Place, chain_step, chain_ends, tree_node, forest_node, forest_roots, chain_secret, forest_secret, words, address}
+use Rattle.rules.specs.Places.{Bytes, Place, chain_step, chain_ends, tree_node, forest_node, forest_roots, chain_secret}
+use Rattle.rules.specs.Places.{forest_secret, words, address}
 use Rattle.addresses.specs.declared.Address.{Address}
 use Rattle.addresses.specs.declared.Made.{Made}
 use Rattle.addresses.specs.declared.Made.TheVariants.{Is, Refused}

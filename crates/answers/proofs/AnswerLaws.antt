@@ -8,7 +8,8 @@ use Prim.Native.Nat.{ℕ, zero, suc}
 use Rattle.rules.specs.Sets.{Row}
 use Rattle.answers.specs.Answers.{number, settled}
 use Rattle.answers.specs.declared.Answer.{Answer}
-use Rattle.answers.specs.declared.Answer.TheVariants.{Done, UnknownSet, InputLength, MessageLength, SealLength, RootDiffers, UnknownPart}
+use Rattle.answers.specs.declared.Answer.TheVariants.{Done, UnknownSet, InputLength, MessageLength, SealLength}
+use Rattle.answers.specs.declared.Answer.TheVariants.{RootDiffers, UnknownPart}
 
 -- A buffer holds what is made where the answer is 0, and else what it held.
 pub settled_made : {A : Type 0} (n : ℕ) (row : Option Row) (made : Row → A) (was : A) (r : Row)

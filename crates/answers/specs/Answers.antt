@@ -4,7 +4,8 @@ use Rattle.std.proofs.Math.Option.{Option, some, none}
 use Rattle.std.specs.Prelude.{ℕ, zero, suc}
 use Rattle.rules.specs.Sets.{Row}
 use Rattle.answers.specs.declared.Answer.{Answer}
-use Rattle.answers.specs.declared.Answer.TheVariants.{Done, UnknownSet, InputLength, MessageLength, SealLength, RootDiffers, UnknownPart}
+use Rattle.answers.specs.declared.Answer.TheVariants.{Done, UnknownSet, InputLength, MessageLength, SealLength}
+use Rattle.answers.specs.declared.Answer.TheVariants.{RootDiffers, UnknownPart}
 
 abbrev pub number : Answer → ℕ
 number Done = 0

@@ -51,7 +51,13 @@ module _ (w : Hashes) (l t p : ℕ) (sk : Bytes) where
       → ys ≡ own_chain w l t p sk i (get_or ds i 0) → front ++ (shown w l t p sk i (drop i ds)).result ≡ whole
       → (front ++ ys) ++ (shown w l t p sk (i + 1) (drop (i + 1) ds)).result ≡ whole
   shown_turn ds i front ys h e q =
-      rw (append_assoc, e, add-one i, ← shown_cons w l t p sk i (get_or ds i 0) (drop (suc i) ds), ← drop-cons ds i 0 h) q
+      rw (
+        append_assoc,
+        e,
+        add-one i,
+        ← shown_cons w l t p sk i (get_or ds i 0) (drop (suc i) ds),
+        ← drop-cons ds i 0 h,
+      ) q
 
   pub shown_end : (ds : List ℕ) (i : ℕ) (out : Bytes) {whole : Bytes} → length ds ≤ i
       → out ++ (shown w l t p sk i (drop i ds)).result ≡ whole → out ≡ whole

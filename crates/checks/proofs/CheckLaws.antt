@@ -1,7 +1,7 @@
 -- A check on plain values: the digest, and the root that the seal leads to where it points, are the rules' check.
 -- Assumes nothing.
 use mathlib.Core.Path.{◌≡◌, sym, ap, ap₂, ◌∙◌}
-use Prim.Native.Nat.{ℕ, ◌+◌, ◌-◌, ◌*◌}
+use Prim.Native.Nat.{ℕ, ◌-◌, ◌*◌}
 use native.Mathlib.Nat.{sub-zero, zero-add}
 use lib.ListN.{length, take, drop}
 use Rattle.rules.specs.Places.{Bytes}

@@ -1,5 +1,6 @@
 // The root that a seal leads to (FIPS 205, algorithm 20), under a row that is ready, with the F calls counted.
 #![tactic(auto)]
+
 ghost use Rattle.std.specs.Prelude.{◌≡◌, ◌++◌, length};
 ghost use Rattle.rules.specs.Check.{checked_root};
 ghost use Rattle.rows.specs.Rows.{ruled_row};

@@ -4,7 +4,8 @@
 use mathlib.Core.Path.{◌≡◌, refl, sym, ap, ap₂, ◌∙◌}
 use mathlib.Core.List.{List, [], ◌∷◌, ◌++◌}
 use Prim.Native.Nat.{ℕ, zero, suc, ◌+◌, ◌-◌, ◌*◌, ◌/◌, ◌%◌, ◌^◌, ◌≤◌, ◌<◌}
-use native.Mathlib.Nat.{zero-lt-suc, div-one, mod-eq_of_lt, div-div-eq-div-mul, div-lt_iff_lt-mul, mul-zero, mul-suc, suc-mul, add-suc, suc_inj, zero-mul, add-le-add, le_refl}
+use native.Mathlib.Nat.{zero-lt-suc, div-one, mod-eq_of_lt, div-div-eq-div-mul, div-lt_iff_lt-mul, mul-zero, mul-suc}
+use native.Mathlib.Nat.{suc-mul, add-suc, suc_inj, zero-mul, add-le-add, le_refl}
 use native.Mathlib.Omega.{arith}
 use lib.ListN.{length, replicate, length-replicate}
 use lib.Pow.{pow-add, suc_ones}

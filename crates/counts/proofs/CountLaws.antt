@@ -7,7 +7,8 @@ use native.Mathlib.Nat.{zero-mul, add-mul, add-zero}
 use native.Mathlib.Omega.{arith}
 use lib.ListN.{length, take, drop}
 use Rattle.rules.specs.Places.{Bytes, Place, address, chain_step, chain_ends, tree_node, forest_node, forest_roots}
-use Rattle.rules.specs.Calls.{Function, F, H, T, PRF, Kind, of, randomizer, digest, Call, call_of, Family, Hashes, under, Run}
+use Rattle.rules.specs.Calls.{Function, F, H, T, PRF, Kind, of, randomizer, digest, Call, call_of, Family, Hashes}
+use Rattle.rules.specs.Calls.{under, Run}
 use Rattle.rules.specs.Chains.{steps, chain_digits, chain, walk, leaf_from}
 use Rattle.rules.specs.Trees.{join, climb}
 use Rattle.rules.specs.Layers.{chain_bytes, layer_root, layers_root}

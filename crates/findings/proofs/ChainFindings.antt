@@ -65,7 +65,8 @@ module _ (w : Hashes) (at : ℕ → Place) where
 
         own_call : Own (call_of F (at i) own)
         own_call =
-            subst (λ (j : ℕ). Own (call_of F (at j) own)) (zero-add i) (owns _ (chain_call secret 0 top i (omega arith)))
+            subst (λ (j : ℕ). Own (call_of F (at j) own)) (zero-add i)
+            (owns _ (chain_call secret 0 top i (omega arith)))
 
         one_more : (chain w at secret 0 (i + suc s)).result ≡ (chain w at secret 0 (suc i + s)).result
         one_more = ap (λ (j : ℕ). (chain w at secret 0 j).result) (add-suc i s ∙ sym (suc-add i s))

@@ -16,7 +16,8 @@ use Rattle.lists.specs.Below.{Below}
 use Rattle.rules.specs.Places.{Bytes, forest_node, forest_roots, address}
 use Rattle.rules.specs.Calls.{F, T, Hashes, Run, Call, call_of}
 use Rattle.rules.specs.Trees.{node, climb}
-use Rattle.rules.specs.Forest.{tree_bytes, forest_bytes, forest_leaf, forest_tree, roots, own_forest, forest_seal, forest_walk, forest_root}
+use Rattle.rules.specs.Forest.{tree_bytes, forest_bytes, forest_leaf, forest_tree, roots, own_forest, forest_seal}
+use Rattle.rules.specs.Forest.{forest_walk, forest_root}
 use Rattle.findings.specs.Findings.{Collision, an_f, a_t}
 use Rattle.rules.proofs.ForestLaws.{next_tree, secret_of, root_of, leaf_sized, leaf_is, roots_suc, seal_nil, seal_cons}
 use Rattle.findings.proofs.FindingLaws.{Owns, before, after, same_input, then, found}

@@ -20,7 +20,8 @@ use Rattle.rules.specs.Digest.{Pointed}
 use Rattle.rules.specs.Keys.{piece, key_root, public_key}
 use Rattle.rules.specs.Seal.{digest_of, written, seal_with, part_start, part_length, part, held_value}
 use Rattle.rules.specs.Check.{checked_root, Accepted, checked_value}
-use Rattle.findings.specs.Findings.{Collision, OwnCall, of_tree, of_forest, LowStart, holders, points_to, OneOfThree, own_seal, collision, low_start}
+use Rattle.findings.specs.Findings.{Collision, OwnCall, of_tree, of_forest, LowStart, holders, points_to, OneOfThree}
+use Rattle.findings.specs.Findings.{own_seal, collision, low_start}
 use Rattle.rules.proofs.SetLaws.{checksum_fits}
 use Rattle.rules.proofs.ChecksumLaws.{lower_digit}
 use Rattle.findings.proofs.FindingLaws.{bytes_discrete, Owns, before, after, then, found}
@@ -30,8 +31,10 @@ use Rattle.rules.proofs.ForestLaws.{own_forest_sized}
 use Rattle.findings.proofs.ForestFindings.{forest_shows}
 use Rattle.rules.proofs.DigestLaws.{Inside, points_inside, heights, tree_at_lt}
 use Rattle.rules.proofs.KeyLaws.{public_root}
-use Rattle.rules.proofs.SealLaws.{per_forest, per_layer, seal_parts, part_long, next_part, held_layer, layers_from, from_zero, from_suc, leaf_lt, part_layer, written_is}
-use Rattle.rules.proofs.CheckLaws.{tree_of, leaf_of, forest_run, layer_run, layers_run, root_run, next_run, checked_sized}
+use Rattle.rules.proofs.SealLaws.{per_forest, per_layer, seal_parts, part_long, next_part, held_layer, layers_from}
+use Rattle.rules.proofs.SealLaws.{from_zero, from_suc, leaf_lt, part_layer, written_is}
+use Rattle.rules.proofs.CheckLaws.{tree_of, leaf_of, forest_run, layer_run, layers_run, root_run, next_run}
+use Rattle.rules.proofs.CheckLaws.{checked_sized}
 use Rattle.rules.proofs.Accepts.{checked_is}
 
 -- A collision or a low start, one of which ends the search.

@@ -1,5 +1,6 @@
 // The forest from its part of a seal (FIPS 205, algorithm 17).
 #![tactic(auto)]
+
 ghost use Rattle.std.specs.Prelude.{◌≡◌, ◌*◌, ◌^◌, length};
 ghost use Rattle.rules.specs.Forest.{forest_root};
 ghost use Rattle.calls.specs.Hashes.{hashes_of};

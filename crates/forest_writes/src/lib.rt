@@ -1,5 +1,6 @@
 // The forest's part of a seal (FIPS 205, algorithm 16).
 #![tactic(auto)]
+
 ghost use Rattle.std.specs.Prelude.{◌≡◌, ◌++◌, ◌+◌, ◌*◌, ◌^◌, ◌≤◌, length};
 ghost use Rattle.rules.specs.Places.{address, forest_secret};
 ghost use Rattle.rules.specs.Calls.{Function};

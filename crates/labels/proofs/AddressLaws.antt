@@ -11,7 +11,8 @@ use lib.Dec.{T, leb, ltb, leb→le, ltb→lt}
 use lib.Pow.{pow_mono}
 use Rattle.lists.proofs.Parts.{append_inj}
 use Rattle.rules.specs.Digits.{to_byte}
-use Rattle.rules.specs.Places.{Bytes, Place, chain_step, chain_ends, tree_node, forest_node, forest_roots, chain_secret, forest_secret, address, words}
+use Rattle.rules.specs.Places.{Bytes, Place, chain_step, chain_ends, tree_node, forest_node, forest_roots, chain_secret}
+use Rattle.rules.specs.Places.{forest_secret, address, words}
 use Rattle.rules.specs.Chains.{chains}
 use Rattle.rules.specs.Sets.{Row, Legal, rows, every, row_of}
 use Rattle.rules.proofs.DigitLaws.{length_digits, digits_inj}

@@ -9,7 +9,8 @@ use Prim.Native.Nat.{ℕ, zero, suc, ◌+◌, ◌-◌, ◌*◌, ◌^◌, ◌≤�
 use native.Mathlib.Nat.{zero-add, sub-zero, sub_self, pow-suc}
 use native.Mathlib.Numerals.{add-one}
 use native.Mathlib.Omega.{arith}
-use Rattle.rules.specs.Places.{Bytes, Place, chain_step, chain_ends, tree_node, forest_node, forest_roots, chain_secret, forest_secret, address}
+use Rattle.rules.specs.Places.{Bytes, Place, chain_step, chain_ends, tree_node, forest_node, forest_roots, chain_secret}
+use Rattle.rules.specs.Places.{forest_secret, address}
 use Rattle.rules.specs.Calls.{F, H, PRF, Call, call_of, Family, Hashes, under}
 use Rattle.rules.specs.Chains.{chains, chain, ends, leaf, own_chain}
 use Rattle.rules.specs.Trees.{Tree, node}

@@ -1,7 +1,8 @@
 -- The places of a key, each with the function that is called there and its input.
 -- Assumes nothing.
 use Rattle.std.specs.Prelude.{Bool, ◌&&◌, ◌≡◌, [], ◌++◌, ℕ, zero, suc, ◌+◌, ◌-◌, ◌*◌, ◌^◌, ◌≤◌, ◌<◌, leb, ltb}
-use Rattle.rules.specs.Places.{Bytes, Place, chain_step, chain_ends, tree_node, forest_node, forest_roots, chain_secret, forest_secret, address}
+use Rattle.rules.specs.Places.{Bytes, Place, chain_step, chain_ends, tree_node, forest_node, forest_roots, chain_secret}
+use Rattle.rules.specs.Places.{forest_secret, address}
 use Rattle.rules.specs.Calls.{Function, F, H, T, PRF, Call, call_of, Hashes}
 use Rattle.rules.specs.Chains.{chains, ends, own_chain}
 use Rattle.rules.specs.Trees.{Tree, node}

@@ -1,8 +1,8 @@
 -- The layers as a loop walks them: k layers from layer l on, each on what the one below led to. With as many bytes as
 -- the layers have, that is the rules' walk.
 -- Assumes nothing.
-use mathlib.Core.Path.{◌≡◌, refl, sym, ap, ap₂, ◌∙◌}
-use mathlib.Core.List.{List, [], ◌∷◌, ◌++◌}
+use mathlib.Core.Path.{◌≡◌, sym, ap, ap₂, ◌∙◌}
+use mathlib.Core.List.{[]}
 use Prim.Native.Nat.{ℕ, zero, suc, ◌+◌, ◌-◌, ◌*◌, ◌/◌, ◌%◌, ◌^◌, ◌≤◌, ◌<◌}
 use native.Mathlib.Nat.{suc-mul, add-zero, zero-add, sub-zero}
 use native.Mathlib.Omega.{arith}
@@ -10,7 +10,7 @@ use lib.ListN.{length, take, drop, length-drop}
 use lib.Seq.{take_all, drop-drop}
 use Rattle.rules.specs.Places.{Bytes}
 use Rattle.rules.specs.Calls.{F, of, Hashes, Run, return, ◌>>=◌}
-use Rattle.rules.specs.Chains.{chains, steps, chain_digits}
+use Rattle.rules.specs.Chains.{chains, chain_digits}
 use Rattle.rules.specs.Layers.{layer_bytes, chain_bytes, layer_root, layers_root}
 use Rattle.counts.specs.Counts.{is, count}
 use Rattle.rules.proofs.ChecksumLaws.{steps_le, length-chain_digits}

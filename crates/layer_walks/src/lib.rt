@@ -1,5 +1,6 @@
 // The layers from their parts of a seal (FIPS 205, algorithms 11 and 13).
 #![tactic(auto)]
+
 ghost use Rattle.std.specs.Prelude.{◌≡◌, ◌+◌, ◌-◌, ◌*◌, ◌≤◌, length, take};
 ghost use Rattle.rules.specs.Chains.{chains};
 ghost use Rattle.rules.specs.Layers.{layer_root, layers_root};

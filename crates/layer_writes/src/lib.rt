@@ -1,5 +1,6 @@
 // A layer's part of a seal (FIPS 205, algorithm 10), and the root that it leads to.
 #![tactic(auto)]
+
 ghost use Rattle.std.specs.Prelude.{◌≡◌, ◌+◌, ◌-◌, ◌*◌, ◌^◌, ◌≤◌, ◌<◌, length, take};
 ghost use Rattle.rules.specs.Chains.{chains};
 ghost use Rattle.rules.specs.Layers.{layer_seal, layer_root};

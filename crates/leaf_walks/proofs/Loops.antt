@@ -1,13 +1,13 @@
 -- A turn and the end of the loop over the chains that a check walks, on plain values: what is left from here is the
 -- whole; and the leaf from it.
 -- Assumes nothing.
-use mathlib.Core.Path.{◌≡◌, refl, sym, ap, ◌∙◌}
-use mathlib.Core.List.{List, [], ◌∷◌, ◌++◌, append_assoc, append-nil}
-use Prim.Native.Nat.{ℕ, zero, suc, ◌+◌, ◌-◌, ◌*◌, ◌≤◌, ◌<◌}
+use mathlib.Core.Path.{◌≡◌, sym, ap, ◌∙◌}
+use mathlib.Core.List.{List, ◌++◌, append_assoc, append-nil}
+use Prim.Native.Nat.{ℕ, ◌+◌, ◌-◌, ◌*◌, ◌≤◌, ◌<◌}
 use native.Mathlib.Omega.{arith}
 use native.Mathlib.Numerals.{add-one}
 use native.Mathlib.Nat.{add-zero, mul-one}
-use lib.ListN.{length, take, drop, get_or, replicate, drop_of_length-le}
+use lib.ListN.{length, drop, get_or, drop_of_length-le}
 use lib.Seq.{drop-cons, take_all, take_at, drop_at}
 use Rattle.parts.specs.Put.{Put}
 use Rattle.rules.specs.Places.{Bytes, chain_step, chain_ends, address}

@@ -1,5 +1,6 @@
 // The leaf that a seal leads to (FIPS 205, algorithm 8), with the F calls counted.
 #![tactic(auto)]
+
 ghost use Rattle.std.specs.Prelude.{◌≡◌, ◌*◌, ◌<◌, ◌^◌, length};
 ghost use Rattle.lists.specs.Below.{Below};
 ghost use Rattle.rules.specs.Calls.{Kind, Function};

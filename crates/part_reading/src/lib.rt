@@ -1,5 +1,6 @@
 // Part reading: a part is handed out as it lies in the seal.
 #![tactic(auto)]
+
 ghost use Rattle.std.specs.Prelude.{◌≡◌, ◌+◌, ◌≤◌, length};
 ghost use Rattle.std.proofs.Math.Option.{some};
 ghost use Rattle.rules.specs.Sets.{row_of};

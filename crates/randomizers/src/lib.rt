@@ -1,5 +1,6 @@
 // The randomizer of a seal, and where the message points with it (FIPS 205, algorithm 19, lines 2 to 10).
 #![tactic(auto)]
+
 ghost use Rattle.std.specs.Prelude.{◌≡◌, ◌++◌, length};
 ghost use Rattle.randomizers.specs.Mixed.{chosen};
 ghost use Rattle.rules.specs.Digest.{pointed};

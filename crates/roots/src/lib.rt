@@ -1,6 +1,7 @@
 // The root that a seal leads to where its digest points (FIPS 205, algorithm 20, lines 14 to 17), under a row that is
 // ready, with the F calls counted.
 #![tactic(auto)]
+
 ghost use Rattle.std.specs.Prelude.{◌≡◌, ◌^◌, length};
 ghost use Rattle.lists.specs.Below.{Below};
 ghost use Rattle.rules.specs.Check.{root_at};

@@ -1,5 +1,6 @@
 // A round: a key pair is made, a message sealed with it, and the seal checked under it.
 #![tactic(auto)]
+
 ghost use Rattle.rules.specs.Sets.{row_of};
 ghost use Rattle.round.specs.Round.{Rounded};
 

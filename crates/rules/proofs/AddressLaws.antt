@@ -4,7 +4,8 @@ use mathlib.Core.Path.{◌≡◌, refl}
 use Prim.Native.Nat.{ℕ}
 use lib.ListN.{length, take, drop, replicate}
 use Rattle.rules.specs.Digits.{digits}
-use Rattle.rules.specs.Places.{Place, chain_step, chain_ends, tree_node, forest_node, forest_roots, chain_secret, forest_secret, address, words}
+use Rattle.rules.specs.Places.{Place, chain_step, chain_ends, tree_node, forest_node, forest_roots, chain_secret}
+use Rattle.rules.specs.Places.{forest_secret, address, words}
 
 -- Every address has 32 bytes.
 pub address_long : (p : Place) → length (address p) ≡ 32

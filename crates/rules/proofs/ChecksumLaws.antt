@@ -145,7 +145,8 @@ module _ (n : ℕ) (fits : 30 * n < 16 ^ 3) where
   pub lower_digit : (M N : Bytes) → IsBytes n M → IsBytes n N → M ≢ N
       → (c : ℕ) × (c < chains n) × (get_or (chain_digits n M) c 0 < get_or (chain_digits n N) c 0)
   lower_digit M N h_m h_n ne =
-      found (lower_or_over (chain_digits n M) (chain_digits n N) (length-chain_digits n M ∙ sym (length-chain_digits n N)))
+      found (lower_or_over (chain_digits n M) (chain_digits n N)
+      (length-chain_digits n M ∙ sym (length-chain_digits n N)))
     where
       found : Lower (chain_digits n M) (chain_digits n N) ⊎ Over (chain_digits n M) (chain_digits n N)
           → (c : ℕ) × (c < chains n) × (get_or (chain_digits n M) c 0 < get_or (chain_digits n N) c 0)

@@ -3,7 +3,8 @@
 use mathlib.Core.Path.{◌≡◌, refl, sym, ap, ap₂, ◌∙◌}
 use mathlib.Core.List.{List, [], ◌∷◌}
 use Prim.Native.Nat.{ℕ, zero, suc, ◌+◌, ◌*◌, ◌/◌, ◌%◌, ◌^◌, ◌<◌}
-use native.Mathlib.Nat.{mod-lt, mod-eq_of_lt, mul-zero, mul-suc, add_comm, mod-one, div-one, mul_assoc, mul-add-div_right, mul-add-mod_self_right, sub_self}
+use native.Mathlib.Nat.{mod-lt, mod-eq_of_lt, mul-zero, mul-suc, add_comm, mod-one, div-one, mul_assoc}
+use native.Mathlib.Nat.{mul-add-div_right, mul-add-mod_self_right, sub_self}
 use native.Mathlib.Omega.{arith}
 use lib.ListN.{length}
 use lib.Arith.{digits_lt}

@@ -12,7 +12,8 @@ use Rattle.lists.specs.Below.{Below}
 use Rattle.rules.specs.Places.{Bytes, IsBytes, forest_node, forest_secret, address}
 use Rattle.rules.specs.Calls.{F, T, PRF, Hashes}
 use Rattle.rules.specs.Trees.{node, path}
-use Rattle.rules.specs.Forest.{tree_bytes, forest_bytes, forest_leaf, forest_tree, roots, own_forest, forest_seal, forest_walk, forest_root}
+use Rattle.rules.specs.Forest.{tree_bytes, forest_bytes, forest_leaf, forest_tree, roots, own_forest, forest_seal}
+use Rattle.rules.specs.Forest.{forest_walk, forest_root}
 use Rattle.rules.proofs.TreeLaws.{length-path, leaf_climbs}
 
 module _ (w : Hashes) (t p a : ℕ) where

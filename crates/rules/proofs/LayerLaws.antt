@@ -13,7 +13,8 @@ use Rattle.rules.specs.Places.{Bytes, IsBytes, tree_node}
 use Rattle.rules.specs.Calls.{Hashes}
 use Rattle.rules.specs.Chains.{chain_digits, shown}
 use Rattle.rules.specs.Trees.{path}
-use Rattle.rules.specs.Layers.{chain_bytes, layer_bytes, layer_tree, own_root, layer_seal, layer_root, layers_seal, layers_root}
+use Rattle.rules.specs.Layers.{chain_bytes, layer_bytes, layer_tree, own_root, layer_seal, layer_root, layers_seal}
+use Rattle.rules.specs.Layers.{layers_root}
 use Rattle.rules.proofs.ChecksumLaws.{length-chain_digits}
 use Rattle.rules.proofs.ChainLaws.{length-shown, leaf_sized, leaf_from_sized, leaf_accepts}
 use Rattle.rules.proofs.TreeLaws.{climb_sized, node_sized, length-path, leaf_climbs}
@@ -39,7 +40,8 @@ module _ (w : Hashes) (h' : ℕ) where
     abbrev pub path_of : (l t i : ℕ) → Bytes
     path_of l t i = (path w (layer_tree w sk l t) h' 0 i).result
 
-    pub layer_seal_is : (l t i : ℕ) (M : Bytes) → (layer_seal w h' sk l t i M).result ≡ shown_for l t i M ++ path_of l t i
+    pub layer_seal_is : (l t i : ℕ) (M : Bytes)
+        → (layer_seal w h' sk l t i M).result ≡ shown_for l t i M ++ path_of l t i
     unfolding layer_seal
     layer_seal_is l t i M = refl
 
@@ -77,7 +79,8 @@ pub tree_up : (h' above t : ℕ) → t < 2 ^ (h' * suc above) → t / 2 ^ h' < 2
 tree_up h' above t h = shr_lt (h' * above) h' (rw (mul-suc h' above) at h)
 
 module _ (w : Hashes) (h' : ℕ) (sk : Bytes) where
-  layers_seal_zero : (l t i : ℕ) (M : Bytes) → (layers_seal w h' sk 0 l t i M).result ≡ (layer_seal w h' sk l t i M).result
+  layers_seal_zero : (l t i : ℕ) (M : Bytes)
+      → (layers_seal w h' sk 0 l t i M).result ≡ (layer_seal w h' sk l t i M).result
   unfolding layers_seal
   layers_seal_zero l t i M = refl
 

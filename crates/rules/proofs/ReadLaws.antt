@@ -38,7 +38,8 @@ pub value_fits : (b w : ℕ) (xs : List ℕ) → Below (2 ^ b) xs → b * length
 value_fits b w xs h l = lt_of_lt_of_le (value_lt b xs h) (pow_mono l)
 
 -- The number of one byte more.
-pub value_suc : (j : ℕ) (xs : List ℕ) → j < length xs → to_int (take (suc j) xs) ≡ to_int (take j xs) * 256 + get_or xs j 0
+pub value_suc : (j : ℕ) (xs : List ℕ) → j < length xs
+    → to_int (take (suc j) xs) ≡ to_int (take j xs) * 256 + get_or xs j 0
 unfolding value
 value_suc j xs h = rw (take-suc xs j 0 h, value_append 8 (take j xs) (get_or xs j 0 ∷ [])) (omega arith)
 
@@ -64,13 +65,15 @@ value_front X n e b h he =
 
 -- The last w of the first e bits from byte `at` on, as bits of the whole.
 pub value_rest : (X : List ℕ) (at e w : ℕ) → 8 * at + e ≤ 8 * length X → w ≤ e
-    → to_int (drop at X) / 2 ^ (8 * length (drop at X) - e) % 2 ^ w ≡ to_int X / 2 ^ (8 * length X - (8 * at + e)) % 2 ^ w
+    → to_int (drop at X) / 2 ^ (8 * length (drop at X) - e) % 2 ^ w
+    ≡ to_int X / 2 ^ (8 * length X - (8 * at + e)) % 2 ^ w
 value_rest X at e w h hw =
     let k : ℕ = 8 * length X - (8 * at + e) in
     rw (length-drop at X, places) (sym (
     ap (λ (v : ℕ). v / 2 ^ k % 2 ^ w)
     (ap to_int (sym (take-append-drop at X)) ∙ value_append 8 (take at X) (drop at X)
-    ∙ ap (λ (x : ℕ). to_int (take at X) * 2 ^ x + to_int (drop at X)) (ap (λ (x : ℕ). 8 * x) (length-drop at X) ∙ whole))
+    ∙ ap (λ (x : ℕ). to_int (take at X) * 2 ^ x + to_int (drop at X))
+    (ap (λ (x : ℕ). 8 * x) (length-drop at X) ∙ whole))
     ∙ above_cut (to_int (take at X)) (to_int (drop at X)) k e w hw))
   where
     places : 8 * (length X - at) - e ≡ 8 * length X - (8 * at + e)

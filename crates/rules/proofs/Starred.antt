@@ -9,7 +9,8 @@ use Rattle.rules.specs.Sets.{rows, find, row_of}
 use Rattle.rules.specs.Starred.{table, Agree}
 
 pub starred : Agree table
-unfolding table value digits base2b words address steps own_digits checksum chain_digits rows find row_of last_bits pointed
+unfolding
+    table value digits base2b words address steps own_digits checksum chain_digits rows find row_of last_bits pointed
 starred = (
   refl,
   (

@@ -3,7 +3,8 @@
 use Rattle.std.specs.Prelude.{◌≡◌, List, [], ◌∷◌, ◌++◌, ℕ, ◌-◌, replicate}
 use Rattle.std.proofs.Math.Option.{Option, some, none}
 use Rattle.rules.specs.Digits.{base2b}
-use Rattle.rules.specs.Places.{address, chain_step, chain_ends, tree_node, forest_node, forest_roots, chain_secret, forest_secret}
+use Rattle.rules.specs.Places.{address, chain_step, chain_ends, tree_node, forest_node, forest_roots, chain_secret}
+use Rattle.rules.specs.Places.{forest_secret}
 use Rattle.rules.specs.Chains.{steps, checksum, chain_digits}
 use Rattle.rules.specs.Sets.{Row, row_of}
 use Rattle.rules.specs.Digest.{Pointed, last_bits, pointed}

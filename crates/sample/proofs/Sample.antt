@@ -15,7 +15,8 @@ use Rattle.rules.specs.Forest.{tree_bytes, forest_bytes, forest_leaf, forest_sea
 use Rattle.rules.specs.Sets.{Row, row}
 use Rattle.rules.specs.Digest.{last_bits, pointed}
 use Rattle.rules.specs.Keys.{key_root, public_key, secret_key}
-use Rattle.rules.specs.Seal.{plain, frame, mixed_in, randomizer_of, digest_of, written, seal_with, seal_of, part_start, part_length, part}
+use Rattle.rules.specs.Seal.{plain, frame, mixed_in, randomizer_of, digest_of, written, seal_with, seal_of, part_start}
+use Rattle.rules.specs.Seal.{part_length, part}
 use Rattle.rules.specs.Check.{layers_part, root_at, checked_root}
 use Rattle.counts.specs.Counts.{is, count}
 use Rattle.rules.proofs.DigitLaws.{length_digits, digits_below}
@@ -70,11 +71,12 @@ told (c ∷ cs) = letter c.kind ∷ (address_of c.place ++ (c.input ++ told cs))
 -- Stirred: public key, secret key, the deterministic seal, a hedged one, and the calls of the first's sealing and
 -- check; then how many calls its sealing makes, and the F, H, T and digest calls of its check.
 worked : List ℕ
-unfolding small seed message stand_in stir told value digits base2b words address steps own_digits checksum chain_digits
-    chain ends leaf shown walk leaf_from join sibling node path climb chain_bytes layer_bytes own_root layer_seal layer_root
-    layers_seal layers_root tree_bytes forest_bytes forest_leaf forest_seal forest_walk forest_root last_bits pointed key_root
-    public_key secret_key frame mixed_in randomizer_of digest_of written seal_with seal_of part_start part_length part layers_part
-    root_at checked_root is count
+unfolding
+    small seed message stand_in stir told value digits base2b words address steps own_digits checksum chain_digits chain
+    ends leaf shown walk leaf_from join sibling node path climb chain_bytes layer_bytes own_root layer_seal layer_root
+    layers_seal layers_root tree_bytes forest_bytes forest_leaf forest_seal forest_walk forest_root last_bits pointed
+    key_root public_key secret_key frame mixed_in randomizer_of digest_of written seal_with seal_of part_start
+    part_length part layers_part root_at checked_root is count
 worked =
     let public : Bytes = public_key small stood (seed 1) (seed 3) in
     let secret : Bytes = secret_key small stood (seed 1) (seed 2) (seed 3) in

@@ -1,5 +1,6 @@
 // A seal by the pieces of a secret key (FIPS 205, algorithm 19), under a row that is ready.
 #![tactic(auto)]
+
 ghost use Rattle.std.specs.Prelude.{◌≡◌, ◌++◌, length};
 ghost use Rattle.rules.specs.Seal.{mixed_in, randomizer_of, seal_with};
 ghost use Rattle.rows.specs.Rows.{ruled_row};

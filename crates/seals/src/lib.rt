@@ -1,5 +1,6 @@
 // Seals (FIPS 205, algorithm 19), under a row that is ready.
 #![tactic(auto)]
+
 ghost use Rattle.std.specs.Prelude.{◌≡◌, ◌++◌, length};
 ghost use Rattle.rules.specs.Seal.{seal_of};
 ghost use Rattle.rows.specs.Rows.{ruled_row};

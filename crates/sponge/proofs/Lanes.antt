@@ -75,7 +75,8 @@ bytes_into : (r j : ℕ) → 8 * j + 8 ≤ r → (p : List ℕ) → Below 256 p 
 unfolding feed number
 bytes_into r j hj [] hp s o ho =
     sym (ap₂ sponge
-    (ap (λ (x : ℕ). set s j (bit_xor (get_or s j 0) x)) (zero-mul (2 ^ (8 * o))) ∙ ap (set s j) (xor_zero_r (get_or s j 0))
+    (ap (λ (x : ℕ). set s j (bit_xor (get_or s j 0) x)) (zero-mul (2 ^ (8 * o)))
+    ∙ ap (set s j) (xor_zero_r (get_or s j 0))
     ∙ set-get_or s j 0)
     (add-zero (8 * j + o)))
 bytes_into r j hj (b ∷ p) hp s o ho =

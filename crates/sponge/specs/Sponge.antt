@@ -1,7 +1,8 @@
 -- The sponge of KECCAK-f[1600] with pad10*1 (FIPS 202, sections 4 and 5; appendix B.1 for bits and bytes). The rate r
 -- is in bytes; strings of bits and of bytes are lists, and a byte's or a lane's lowest part comes first.
 -- Assumes nothing.
-use Rattle.std.specs.Prelude.{ℕ, zero, suc, ◌+◌, ◌-◌, ◌*◌, ◌/◌, ◌%◌, ◌^◌, List, [], ◌∷◌, ◌++◌, length, take, drop, replicate}
+use Rattle.std.specs.Prelude.{ℕ, zero, suc, ◌+◌, ◌-◌, ◌*◌, ◌/◌, ◌%◌, ◌^◌, List, [], ◌∷◌, ◌++◌, length, take, drop}
+use Rattle.std.specs.Prelude.{replicate}
 use Rattle.std.specs.Int.Bits.{bit_xor}
 use Rattle.keccak.specs.Keccak.{keccak_f}
 

@@ -1,7 +1,8 @@
 -- The sponge of an extendable-output function as a stream of bytes, which the code follows: the lanes, and the place of
 -- the next byte. That bytes fed, finished and drawn are FIPS 202's sponge is a law, `shaken`.
 -- Assumes nothing.
-use Rattle.std.specs.Prelude.{ℕ, zero, suc, ◌+◌, ◌-◌, ◌*◌, ◌/◌, ◌%◌, ◌^◌, ◌≤◌, ◌<◌, ◌≡◌, cond, List, [], ◌∷◌, get_or, set, replicate, leb}
+use Rattle.std.specs.Prelude.{ℕ, zero, suc, ◌+◌, ◌-◌, ◌*◌, ◌/◌, ◌%◌, ◌^◌, ◌≤◌, ◌<◌, ◌≡◌, cond, List, [], ◌∷◌, get_or}
+use Rattle.std.specs.Prelude.{set, replicate, leb}
 use Rattle.std.specs.Int.Bits.{bit_xor}
 use Rattle.keccak.specs.Keccak.{keccak_f}
 

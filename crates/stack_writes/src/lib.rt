@@ -1,5 +1,6 @@
 // All layers' parts of a seal (FIPS 205, algorithm 12).
 #![tactic(auto)]
+
 ghost use Rattle.std.specs.Prelude.{◌≡◌, ◌+◌, ◌-◌, ◌^◌, ◌≤◌, ◌<◌, length, take};
 ghost use Rattle.rules.specs.Layers.{layers_seal};
 ghost use Rattle.calls.specs.Hashes.{hashes_of};

@@ -1,6 +1,7 @@
 // The roots of the forest's trees from their parts of a seal (FIPS 205, algorithm 17, lines 2 to 20), with the F calls
 // counted.
 #![tactic(auto)]
+
 ghost use Rattle.std.specs.Prelude.{◌≡◌, ◌+◌, ◌*◌, ◌^◌, ◌≤◌, ◌<◌, length};
 ghost use Rattle.lists.specs.Below.{Below};
 ghost use Rattle.rules.specs.Calls.{Kind, Function};

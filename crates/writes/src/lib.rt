@@ -1,5 +1,6 @@
 // What sealing writes after the randomizer (FIPS 205, algorithm 19, lines 11 to 17), under a row that is ready.
 #![tactic(auto)]
+
 ghost use Rattle.std.specs.Prelude.{◌≡◌, ◌+◌, ◌-◌, ◌*◌, ◌^◌, ◌<◌, length, take};
 ghost use Rattle.lists.specs.Below.{Below};
 ghost use Rattle.rules.specs.Calls.{under};

@@ -11,7 +11,8 @@ use Rattle.chains.proofs.chain_in.Given as goal
 abbrev pub invariant-loop-k : goal.invariant-loop-k
 invariant-loop-k l =
     (l.k ≤ l.steps) × (length l.io ≡ length l.initial.io)
-    × ((chain (hashes_of l.kit l.seed) (chain_step l.layer l.tree l.pair l.c) l.io (l.start + l.k) (l.steps - l.k)).result
+    × ((chain (hashes_of l.kit l.seed) (chain_step l.layer l.tree l.pair l.c)
+    l.io (l.start + l.k) (l.steps - l.k)).result
     ≡ (chain (hashes_of l.kit l.seed) (chain_step l.layer l.tree l.pair l.c) l.initial.io l.start l.steps).result)
 
 abbrev pub decreases-loop-k : goal.decreases-loop-k

@@ -57,7 +57,8 @@ returns c =
     let l = c.loop-i in
     let a = c.args in
     let done : l.i ≡ length a.ds.now = omega arith in
-    let full : length l.out ≤ l.at = omega (arith, l.invariant.1, ap (λ x. x * a.kit.n) done, l.invariant.2, c.requires.0) in
+    let full : length l.out ≤ l.at =
+    omega (arith, l.invariant.1, ap (λ x. x * a.kit.n) done, l.invariant.2, c.requires.0) in
     shown_end (hashes_of a.kit a.seed.now) a.spot.layer a.spot.tree a.spot.pair a.sk.now
     a.ds.now l.i l.out (omega arith) (rw (take_all l.at l.out full) at l.invariant.3)
 

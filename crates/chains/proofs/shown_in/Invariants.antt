@@ -11,7 +11,8 @@ use Rattle.chains.proofs.shown_in.Given as goal
 abbrev pub invariant-loop-i : goal.invariant-loop-i
 invariant-loop-i l =
     (l.i ≤ length l.ds) × (l.at ≡ l.i * l.n) × (length l.out ≡ length l.initial.out)
-    × (take l.at l.out ++ (shown (hashes_of l.kit l.seed) l.spot.layer l.spot.tree l.spot.pair l.sk l.i (drop l.i l.ds)).result
+    × (take l.at l.out ++ (shown (hashes_of l.kit l.seed)
+    l.spot.layer l.spot.tree l.spot.pair l.sk l.i (drop l.i l.ds)).result
     ≡ (shown (hashes_of l.kit l.seed) l.spot.layer l.spot.tree l.spot.pair l.sk 0 l.ds).result)
 
 abbrev pub decreases-loop-i : goal.decreases-loop-i

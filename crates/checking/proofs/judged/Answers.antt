@@ -6,6 +6,6 @@ use Rattle.checking.proofs.judged.Goals as goal
 
 pub returns : goal.returns
 returns c = record {
-      answer_value = c.unless-answer.ensures ∙ ap (λ (b : Bool). cond b 0 5) c.same-alike.ensures;
-      calls_value = refl;
-    }
+  answer_value = c.unless-answer.ensures ∙ ap (λ (b : Bool). cond b 0 5) c.same-alike.ensures;
+  calls_value = refl;
+}

@@ -2,7 +2,6 @@
 -- Assumes nothing.
 use mathlib.Core.Path.{◌∙◌}
 use mathlib.Core.List.{◌++◌}
-use borrow.Author.Rules.{rules}
 use Rattle.rows.specs.Rows.{ruled_row}
 use Rattle.calls.specs.Hashes.{family_for}
 use Rattle.points.proofs.PointLaws.{in_key}
@@ -12,7 +11,7 @@ use Rattle.checks.proofs.checked_root_over.Goals as goal
 pub root_at-requires : goal.root_at-requires
 root_at-requires c =
     let q = in_key (ruled_row c.args.row) c.requires.0.legal _ c.aim-pointed.ensures in
-     record {
+    record {
       ready = (c.requires.0, c.requires.2);
       indices_fit = (q.indices_long, q.indices_below);
     }

@@ -11,7 +11,8 @@ use Rattle.climbs.proofs.climb.Given as goal
 abbrev pub invariant-loop-z : goal.invariant-loop-z
 invariant-loop-z l =
     (l.z ≤ l.count) × (l.at ≡ l.z * l.kit.n)
-    × ((climb (hashes_of l.kit l.seed) (place_of l.grove) (l.count - l.z) l.z l.j (take l.kit.n l.v) (drop l.at l.auth)).result
+    × ((climb (hashes_of l.kit l.seed) (place_of l.grove)
+    (l.count - l.z) l.z l.j (take l.kit.n l.v) (drop l.at l.auth)).result
     ≡ (climb (hashes_of l.kit l.seed) (place_of l.grove) l.count 0 l.i (take l.kit.n l.initial.v) l.auth).result)
 
 abbrev pub decreases-loop-z : goal.decreases-loop-z

@@ -3,7 +3,6 @@
 use Prim.Native.Nat.{◌*◌}
 use native.Mathlib.Omega.{arith}
 use lib.ListN.{length}
-use borrow.Author.Rules.{rules}
 use Rattle.lists.proofs.Parts.{zeros_part}
 use Rattle.rows.proofs.SizeLaws.{wood_fits}
 use Rattle.forest_walks.proofs.forest_root.Goals as goal
@@ -15,7 +14,7 @@ slice_bounds-roots-end c =
 pub forest_root_over-requires : goal.forest_root_over-requires
 forest_root_over-requires c =
     let k = length c.args.ds.now in
-     record {
+    record {
       wood = c.requires;
       roots_len = zeros_part (k * c.args.kit.n) 1120 (wood_fits k c.args.kit.n c.requires.0.few c.requires.0.small);
     }

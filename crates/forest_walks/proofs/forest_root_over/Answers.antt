@@ -10,7 +10,7 @@ pub roots_in-calls-requires : goal.roots_in-calls-requires
 roots_in-calls-requires c =
     let wood = c.requires.wood.0 in
     let e = one_shifted c.args.a 32 wood.low in
-     record {
+    record {
       sizes = (wood.small, e, rw e wood.leaves, rw e c.requires.wood.1);
       lent_len = (wood.sig_long, c.requires.roots_len, wood.few);
     }

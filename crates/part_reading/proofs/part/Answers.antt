@@ -17,15 +17,15 @@ returns-in-Is c =
     let a = c.args in
     let under = c.part_under.ensures in
     let both = part_by (row_found c.in-Is.is c.find_row-found.ensures)
-        a.seal.now a.number a.seal.ref_ptr (under.bytes, under.place) in
+    a.seal.now a.number a.seal.ref_ptr (under.bytes, under.place) in
     record { bytes = both.0; place = both.1 }
 
 pub returns-in-Unknown : goal.returns-in-Unknown
 returns-in-Unknown c =
     let a = c.args in
     let both = part_by (row_missing c.in-Unknown.is c.find_row-found.ensures)
-        a.seal.now a.number a.seal.ref_ptr (
-          (part_unknown a.seal.now a.number).1,
-          ap (byte_at a.seal.ref_ptr) (extent_unknown a.seal.now a.number).0,
-        ) in
+    a.seal.now a.number a.seal.ref_ptr (
+      (part_unknown a.seal.now a.number).1,
+      ap (byte_at a.seal.ref_ptr) (extent_unknown a.seal.now a.number).0,
+    ) in
     record { bytes = both.0; place = both.1 }

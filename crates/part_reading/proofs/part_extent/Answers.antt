@@ -15,13 +15,13 @@ returns-in-Is c =
     let a = c.args in
     let under = c.part_extent_under.ensures in
     let both = extent_by (row_found c.in-Is.is c.find_row-found.ensures)
-        a.seal.now a.number
-        (under.start_value, under.length_value) in
+    a.seal.now a.number
+    (under.start_value, under.length_value) in
     record { start_value = both.0; length_value = both.1 }
 
 pub returns-in-Unknown : goal.returns-in-Unknown
 returns-in-Unknown c =
     let a = c.args in
     let both = extent_by (row_missing c.in-Unknown.is c.find_row-found.ensures) a.seal.now a.number
-        (extent_unknown a.seal.now a.number) in
+    (extent_unknown a.seal.now a.number) in
     record { start_value = both.0; length_value = both.1 }

@@ -10,7 +10,7 @@ returns-then-number_of-ne0 c =
     let a = c.args in
     let e = c.part_answer_under-answer.ensures in
     let both = extent_refused a.seal.now a.number (ruled_row a.row)
-        (λ z. c.if-number_of-ne0.true (c.number_of.ensures ∙ e ∙ z)) in
+    (λ z. c.if-number_of-ne0.true (c.number_of.ensures ∙ e ∙ z)) in
     record { start_value = both.0; length_value = both.1 }
 
 pub part_start-start-requires : goal.part_start-start-requires
@@ -23,5 +23,5 @@ returns c =
     let a = c.args in
     let z = sym c.part_answer_under-answer.ensures ∙ sym c.number_of.ensures ∙ c.if-number_of-ne0.false in
     let both = extent_read a.seal.now a.number (ruled_row a.row) z c.part_start-start.ensures
-        c.part_length-length.ensures in
+    c.part_length-length.ensures in
     record { start_value = both.0; length_value = both.1 }

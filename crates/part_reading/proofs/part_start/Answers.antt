@@ -14,25 +14,25 @@ use Rattle.part_reading.proofs.part_start.Goals as goal
 pub overflow_add-result : goal.overflow_add-result
 overflow_add-result c =
     let forest_small : c.forest_bytes-forest.result ≤ 19040 =
-        rw c.forest_bytes-forest.ensures (forest_room (ruled_row c.args.row) c.requires.0) in
+    rw c.forest_bytes-forest.ensures (forest_room (ruled_row c.args.row) c.requires.0) in
     record { fits = omega (arith, forest_small, c.requires.0.fit.values) }
 
 pub overflow_mul-result : goal.overflow_mul-result
 overflow_mul-result c =
     let layer_small : c.layer_bytes-layer.result ≤ 2656 =
-        rw c.layer_bytes-layer.ensures (layer_room (ruled_row c.args.row) c.requires.0) in
+    rw c.layer_bytes-layer.ensures (layer_room (ruled_row c.args.row) c.requires.0) in
     let room = start_room c.args.number c.args.row.d c.layer_bytes-layer.result c.requires.1
-        c.requires.0.fit.layers layer_small in
+    c.requires.0.fit.layers layer_small in
     record { fits = omega (arith, room) }
 
 pub overflow_add-result-in_default : goal.overflow_add-result-in_default
 overflow_add-result-in_default c =
     let forest_small : c.forest_bytes-forest.result ≤ 19040 =
-        rw c.forest_bytes-forest.ensures (forest_room (ruled_row c.args.row) c.requires.0) in
+    rw c.forest_bytes-forest.ensures (forest_room (ruled_row c.args.row) c.requires.0) in
     let layer_small : c.layer_bytes-layer.result ≤ 2656 =
-        rw c.layer_bytes-layer.ensures (layer_room (ruled_row c.args.row) c.requires.0) in
+    rw c.layer_bytes-layer.ensures (layer_room (ruled_row c.args.row) c.requires.0) in
     let room = start_room c.args.number c.args.row.d c.layer_bytes-layer.result c.requires.1
-        c.requires.0.fit.layers layer_small in
+    c.requires.0.fit.layers layer_small in
     record { fits = omega (arith, room, forest_small, c.requires.0.fit.values) }
 
 pub returns-in-0 : goal.returns-in-0

@@ -16,7 +16,7 @@ returns-then-number_of-ne0 c =
     let a = c.args in
     let e = c.part_answer_under-answer.ensures in
     let refused : part_answer (some (ruled_row a.row)) a.seal.now a.number ≡ 0 → ⊥ =
-        λ z. c.if-number_of-ne0.true (c.number_of.ensures ∙ e ∙ z) in
+    λ z. c.if-number_of-ne0.true (c.number_of.ensures ∙ e ∙ z) in
     record {
       bytes = part_refused a.seal.now a.number (ruled_row a.row) refused;
       place = ap (byte_at a.seal.ref_ptr) (extent_refused a.seal.now a.number (ruled_row a.row) refused).0;
@@ -39,7 +39,7 @@ overflow_add-end c =
     let low : a.number ≤ a.row.d + 1 = there.1 in
     let f = part_fits (ruled_row a.row) c.requires.legal a.number (omega arith) in
     let inside : c.part_start-start.result + c.part_length.result ≤ length a.seal.now =
-        omega (arith, f, there.0, c.part_start-start.ensures, c.part_length.ensures) in
+    omega (arith, f, there.0, c.part_start-start.ensures, c.part_length.ensures) in
     record { fits = omega (arith, inside) }
 
 pub slice_bounds-result-end-2 : goal.slice_bounds-result-end-2
@@ -50,7 +50,7 @@ slice_bounds-result-end-2 c =
     let low : a.number ≤ a.row.d + 1 = there.1 in
     let f = part_fits (ruled_row a.row) c.requires.legal a.number (omega arith) in
     let inside : c.part_start-start.result + c.part_length.result ≤ length a.seal.now =
-        omega (arith, f, there.0, c.part_start-start.ensures, c.part_length.ensures) in
+    omega (arith, f, there.0, c.part_start-start.ensures, c.part_length.ensures) in
     omega (arith, inside)
 
 pub returns : goal.returns

@@ -1,7 +1,6 @@
 -- `root_at` walks the forest's part and then, on what it led to, the layers' parts.
 -- Assumes nothing.
 use native.Mathlib.Omega.{arith}
-use borrow.Author.Rules.{rules}
 use Rattle.rows.specs.Rows.{ruled_row}
 use Rattle.calls.specs.Hashes.{family_for}
 use Rattle.rows.proofs.SizeLaws.{forest_room, seal_size}

@@ -9,7 +9,8 @@ use Rattle.squeezing.proofs.put_lane.Given as goal
 
 abbrev pub invariant-loop-k : goal.invariant-loop-k
 invariant-loop-k l =
-    (l.k ≤ 8) × (length l.out ≡ length l.initial.out) × (take (l.i + l.k) l.out ++ digits 8 (8 - l.k) l.rest ≡ take l.i l.initial.out ++ digits 8 8 l.w)
+    (l.k ≤ 8) × (length l.out ≡ length l.initial.out)
+    × (take (l.i + l.k) l.out ++ digits 8 (8 - l.k) l.rest ≡ take l.i l.initial.out ++ digits 8 8 l.w)
 
 abbrev pub decreases-loop-k : goal.decreases-loop-k
 decreases-loop-k l = 8 - l.k

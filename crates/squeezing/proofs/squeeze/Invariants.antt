@@ -8,7 +8,8 @@ use Rattle.squeezing.proofs.squeeze.Given as goal
 
 abbrev pub invariant-loop-i : goal.invariant-loop-i
 invariant-loop-i l =
-    (l.i ≤ length l.out) × (length l.out ≡ length l.initial.out) × (sponge l.s l.p ≡ drawn l.rate l.i (sponge l.initial.s l.at))
+    (l.i ≤ length l.out) × (length l.out ≡ length l.initial.out)
+    × (sponge l.s l.p ≡ drawn l.rate l.i (sponge l.initial.s l.at))
     × (take l.i l.out ≡ draw l.rate l.i (sponge l.initial.s l.at))
 
 abbrev pub decreases-loop-i : goal.decreases-loop-i
