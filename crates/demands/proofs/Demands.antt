@@ -7,15 +7,15 @@ use mathlib.Core.Logic.{◌↔◌, ◌≢◌, ◌⊎◌, inl, inr}
 use mathlib.Core.Bool.{true}
 use mathlib.Core.List.{List, []}
 use mathlib.Core.Option.{Option, some, none}
-use Prim.Native.Nat.{ℕ, zero, suc, ◌+◌, ◌*◌, ◌≤◌, ◌<◌}
+use Prim.Native.Nat.{ℕ, ◌+◌, ◌*◌, ◌≤◌, ◌<◌}
 use native.Mathlib.Nat.{not-le_of_lt}
 use native.Mathlib.Omega.{arith}
 use lib.ListN.{length, take, drop}
 use Rattle.rules.specs.Places.{Bytes}
 use Rattle.rules.specs.Calls.{F, of, Call, address_of}
-use Rattle.rules.specs.Chains.{chains, chain_digits}
+use Rattle.rules.specs.Chains.{chain_digits}
 use Rattle.rules.specs.Sets.{Row, rows, row_of}
-use Rattle.rules.specs.Keys.{piece, public_key, secret_key}
+use Rattle.rules.specs.Keys.{public_key, secret_key}
 use Rattle.rules.specs.Seal.{plain, frame, seal_of, part}
 use Rattle.rules.specs.Check.{checked_root, Accepted}
 use Rattle.findings.specs.Findings.{OneOfThree, OwnCall}

@@ -1,6 +1,6 @@
 -- A round: what key making, sealing with the key made and checking under it promise together.
 -- Assumes nothing.
-use Rattle.std.specs.Prelude.{◌≡◌, ℕ}
+use Rattle.std.specs.Prelude.{◌≡◌}
 use Rattle.std.proofs.Math.Option.{Option}
 use Rattle.rules.specs.Places.{Bytes}
 use Rattle.rules.specs.Sets.{Row}

@@ -2,7 +2,6 @@
 -- Assumes nothing.
 use mathlib.Core.Path.{◌∙◌}
 use native.Mathlib.Omega.{arith}
-use borrow.Author.Rules.{rules}
 use Rattle.calls.specs.Hashes.{hashes_of}
 use Rattle.lists.proofs.Lent.{front_long}
 use Rattle.forest_writes.proofs.ForestLaws.{tree_written}
