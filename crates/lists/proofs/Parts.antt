@@ -68,3 +68,11 @@ front_part g n {m} {ys} rest e l k = take_at ys rest n (l ∙ k) ∙ e ∙ ap g 
 -- Piece j of n elements ends within d pieces.
 pub piece_room : (j d n : ℕ) → j < d → j * n + n ≤ d * n
 piece_room j d n h = omega (arith, mul-le-mul_right n h, suc-mul j n)
+
+-- Parts that fill a whole fill it under any name of their length.
+pub parts_fill : (d n : ℕ) {whole long : ℕ} → whole ≡ d * long → n ≡ long → whole ≡ d * n
+parts_fill d n e f = e ∙ ap (λ (x : ℕ). d * x) (sym f)
+
+-- Where d parts of n elements fill a whole, part j ends within it.
+pub part_room : (j d n at : ℕ) {whole : ℕ} → j < d → at ≡ j * n → whole ≡ d * n → at + n ≤ whole
+part_room j d n at h e f = omega (arith, piece_room j d n h)

@@ -1,11 +1,11 @@
 -- `shown_in` writes the chains' values one after the other: what is written and what is left to show are the whole.
 -- Assumes nothing.
 use mathlib.Core.Path.{◌≡◌, refl, ap, ◌∙◌}
-use Prim.Native.Nat.{◌+◌, ◌*◌, ◌≤◌}
+use Prim.Native.Nat.{◌*◌, ◌≤◌}
 use native.Mathlib.Omega.{arith}
 use lib.ListN.{length, take}
 use lib.Seq.{take_all}
-use Rattle.lists.proofs.Parts.{piece_room}
+use Rattle.lists.proofs.Parts.{part_room}
 use Rattle.lists.proofs.Filling.{part_written, part_length_lem, lent_length}
 use Rattle.calls.specs.Hashes.{hashes_of}
 use Rattle.chains.proofs.Loops.{shown_turn, shown_end}
@@ -17,28 +17,19 @@ loop-i-init c = (omega arith, omega arith, refl, refl)
 pub overflow_cast-i : goal.overflow_cast-i
 overflow_cast-i c = omega (arith, c.requires.1)
 
+-- In a turn there is room for the next value.
 pub own_chain-requires : goal.own_chain-requires
 own_chain-requires c =
-    let room : c.loop-i.at + c.args.kit.n
-    ≤ length c.loop-i.out =
-    omega (
-      arith,
-      piece_room c.loop-i.i (length c.args.ds.now) c.args.kit.n c.loop-i-test.true,
-      c.requires.0,
-    ) in
     let l = c.loop-i in
+    let room = part_room l.i (length c.args.ds.now) c.args.kit.n l.at c.loop-i-test.true l.invariant.1
+    (l.invariant.2 ∙ c.requires.0) in
     (lent_length l.at c.args.kit.n l.out room, c.requires.2 l.i)
 
 pub loop-i-preserved : goal.loop-i-preserved
 loop-i-preserved c =
-    let room : c.loop-i.at + c.args.kit.n
-    ≤ length c.loop-i.out =
-    omega (
-      arith,
-      piece_room c.loop-i.i (length c.args.ds.now) c.args.kit.n c.loop-i-test.true,
-      c.requires.0,
-    ) in
     let l = c.loop-i in
+    let room = part_room l.i (length c.args.ds.now) c.args.kit.n l.at c.loop-i-test.true l.invariant.1
+    (l.invariant.2 ∙ c.requires.0) in
     let a = c.args in
     let ys = c.own_chain.new.out in
     let lent = lent_length l.at a.kit.n l.out room in
@@ -64,35 +55,23 @@ returns c =
 
 pub overflow_add-at : goal.overflow_add-at
 overflow_add-at c =
-    let room : c.loop-i.at + c.args.kit.n
-    ≤ length c.loop-i.out =
-    omega (
-      arith,
-      piece_room c.loop-i.i (length c.args.ds.now) c.args.kit.n c.loop-i-test.true,
-      c.requires.0,
-    ) in
+    let l = c.loop-i in
+    let room = part_room l.i (length c.args.ds.now) c.args.kit.n l.at c.loop-i-test.true l.invariant.1
+    (l.invariant.2 ∙ c.requires.0) in
     omega (arith, room)
 
 pub slice_bounds-own_chain-end : goal.slice_bounds-own_chain-end
 slice_bounds-own_chain-end c =
-    let room : c.loop-i.at + c.args.kit.n
-    ≤ length c.loop-i.out =
-    omega (
-      arith,
-      piece_room c.loop-i.i (length c.args.ds.now) c.args.kit.n c.loop-i-test.true,
-      c.requires.0,
-    ) in
+    let l = c.loop-i in
+    let room = part_room l.i (length c.args.ds.now) c.args.kit.n l.at c.loop-i-test.true l.invariant.1
+    (l.invariant.2 ∙ c.requires.0) in
     omega (arith, room)
 
 pub overflow_add-at-in-loop-i : goal.overflow_add-at-in-loop-i
 overflow_add-at-in-loop-i c =
-    let room : c.loop-i.at + c.args.kit.n
-    ≤ length c.loop-i.out =
-    omega (
-      arith,
-      piece_room c.loop-i.i (length c.args.ds.now) c.args.kit.n c.loop-i-test.true,
-      c.requires.0,
-    ) in
+    let l = c.loop-i in
+    let room = part_room l.i (length c.args.ds.now) c.args.kit.n l.at c.loop-i-test.true l.invariant.1
+    (l.invariant.2 ∙ c.requires.0) in
     omega (arith, room)
 
 pub shape_of-out : goal.shape_of-out

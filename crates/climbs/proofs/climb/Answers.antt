@@ -1,11 +1,10 @@
 -- `climb` comes to the root of the rules: what is left to climb from each height on comes to the same as the whole.
 -- Assumes nothing.
 use mathlib.Core.Path.{sym, ◌∙◌}
-use Prim.Native.Nat.{◌+◌, ◌≤◌}
 use native.Mathlib.Numerals.{unary_clauses}
 use native.Mathlib.Omega.{arith}
-use lib.ListN.{length, take}
-use Rattle.lists.proofs.Parts.{piece_room}
+use lib.ListN.{take}
+use Rattle.lists.proofs.Parts.{part_room}
 use Rattle.calls.specs.Hashes.{hashes_of}
 use Rattle.climbs.specs.Groves.{place_of}
 use Rattle.climbs.proofs.ClimbLaws.{climb_turn, climb_end}
@@ -16,18 +15,14 @@ loop-z-init c = (omega arith, omega arith, simp unary_clauses)
 
 pub overflow_add-e : goal.overflow_add-e
 overflow_add-e c =
-    let room : let l = c.loop-z in
-    let a = c.args in
-    l.at + a.kit.n ≤ length a.auth.now =
-    omega (arith, piece_room c.loop-z.z c.args.count c.args.kit.n c.loop-z-test.true) in
+    let l = c.loop-z in
+    let room = part_room l.z c.args.count c.args.kit.n l.at c.loop-z-test.true l.invariant.1 c.requires.1 in
     omega (arith, room)
 
 pub slice_bounds-up-end : goal.slice_bounds-up-end
 slice_bounds-up-end c =
-    let room : let l = c.loop-z in
-    let a = c.args in
-    l.at + a.kit.n ≤ length a.auth.now =
-    omega (arith, piece_room c.loop-z.z c.args.count c.args.kit.n c.loop-z-test.true) in
+    let l = c.loop-z in
+    let room = part_room l.z c.args.count c.args.kit.n l.at c.loop-z-test.true l.invariant.1 c.requires.1 in
     omega (arith, room)
 
 pub loop-z-preserved : goal.loop-z-preserved

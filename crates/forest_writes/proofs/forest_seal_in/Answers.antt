@@ -1,12 +1,12 @@
 -- `forest_seal_in` writes the trees' parts one after the other: what is written and what is left are the whole.
 -- Assumes nothing.
-use mathlib.Core.Path.{◌≡◌, refl, sym, ap, ◌∙◌}
+use mathlib.Core.Path.{◌≡◌, refl, ap, ◌∙◌}
 use Prim.Native.Nat.{ℕ, ◌+◌, ◌*◌, ◌^◌, ◌≤◌, ◌<◌}
 use native.Mathlib.Omega.{arith}
 use lib.ListN.{length, take, get_or}
 use lib.Seq.{take_all}
 use Rattle.lists.proofs.Bits.{one_shifted}
-use Rattle.lists.proofs.Parts.{piece_room}
+use Rattle.lists.proofs.Parts.{piece_room, parts_fill, part_room}
 use Rattle.lists.proofs.Filling.{part_written, part_length_lem, lent_length}
 use Rattle.calls.specs.Hashes.{hashes_of}
 use Rattle.forest_writes.proofs.ForestLaws.{forest_turn, forest_end}
@@ -15,14 +15,7 @@ use Rattle.forest_writes.proofs.forest_seal_in.Goals as goal
 pub loop-j-init : goal.loop-j-init
 loop-j-init c = (omega arith, omega arith, omega arith, refl, refl)
 
--- All trees' parts fill the bytes lent.
-filled : (many step : ℕ) {out whole long : ℕ} → out ≡ whole → whole ≡ many * long → step ≡ long → out ≡ many * step
-filled many step e f g = e ∙ f ∙ ap (λ x. many * x) (sym g)
-
--- In a turn there is room for a tree's part, and for the numbers of its leaves and of as many more.
-part_room : (j many step at : ℕ) {out : ℕ} → j < many → at ≡ j * step → out ≡ many * step → at + step ≤ out
-part_room j many step at h e f = omega (arith, piece_room j many step h)
-
+-- In a turn there is room for the numbers of a tree's leaves, and for as many more.
 leaf_room : (j many size base : ℕ) → j < many → base ≡ j * size → (many + 1) * size ≤ 2 ^ 32
     → base + size + size ≤ 2 ^ 32
 leaf_room j many size base h e f = omega (arith, piece_room j many size h)
@@ -33,7 +26,7 @@ overflow_add-e c =
     let step = c.tree_bytes-step in
     let many = length c.args.ds.now in
     let room = part_room l.j many step.result l.at c.loop-j-test.true l.invariant.2
-    (filled many step.result l.invariant.3 c.requires.wood.0.sig_long step.ensures) in
+    (l.invariant.3 ∙ parts_fill many step.result c.requires.wood.0.sig_long step.ensures) in
     omega (arith, room)
 
 -- The digit of a turn is below the number of a tree's leaves.
@@ -51,7 +44,7 @@ slice_bounds-tree_seal_in-end c =
     let step = c.tree_bytes-step in
     let many = length c.args.ds.now in
     let room = part_room l.j many step.result l.at c.loop-j-test.true l.invariant.2
-    (filled many step.result l.invariant.3 c.requires.wood.0.sig_long step.ensures) in
+    (l.invariant.3 ∙ parts_fill many step.result c.requires.wood.0.sig_long step.ensures) in
     omega (arith, room)
 
 pub tree_seal_in-requires : goal.tree_seal_in-requires
@@ -61,7 +54,7 @@ tree_seal_in-requires c =
     let step = c.tree_bytes-step in
     let many = length a.ds.now in
     let room = part_room l.j many step.result l.at c.loop-j-test.true l.invariant.2
-    (filled many step.result l.invariant.3 c.requires.wood.0.sig_long step.ensures) in
+    (l.invariant.3 ∙ parts_fill many step.result c.requires.wood.0.sig_long step.ensures) in
     let leaves = leaf_room l.j many (2 ^ a.a) l.base c.loop-j-test.true l.invariant.1 c.requires.leaves_fit in (
       c.requires.wood.0.small,
       lent_length l.at step.result l.out room ∙ step.ensures,
@@ -83,7 +76,7 @@ loop-j-preserved c =
     let step = c.tree_bytes-step.result in
     let many = length a.ds.now in
     let room = part_room l.j many step l.at c.loop-j-test.true l.invariant.2
-    (filled many step l.invariant.3 c.requires.wood.0.sig_long c.tree_bytes-step.ensures) in
+    (l.invariant.3 ∙ parts_fill many step c.requires.wood.0.sig_long c.tree_bytes-step.ensures) in
     let wrote = c.tree_seal_in in
     let ys = wrote.new.out in
     let long = wrote.auto.out ∙ lent_length l.at step l.out room in
@@ -109,7 +102,7 @@ returns c =
     let step = c.tree_bytes-step.result in
     let done : l.j ≡ length a.ds.now = omega arith in
     let ends = ap (λ x. x * step) done in
-    let all = filled (length a.ds.now) step l.invariant.3 c.requires.wood.0.sig_long c.tree_bytes-step.ensures in
+    let all = l.invariant.3 ∙ parts_fill (length a.ds.now) step c.requires.wood.0.sig_long c.tree_bytes-step.ensures in
     let full : length l.out ≤ l.at = omega (arith, l.invariant.2, ends, all) in
     forest_end (hashes_of a.kit a.seed.now) a.tree a.pair a.a a.sk.now a.ds.now l.j l.out
     (omega arith) (rw (take_all l.at l.out full) at l.invariant.4)

@@ -2,7 +2,7 @@
 -- the calls.
 -- Assumes nothing.
 use mathlib.Core.Path.{◌≡◌, refl, sym, ap, ap₂, ◌∙◌}
-use Prim.Native.Nat.{ℕ, suc, ◌+◌, ◌-◌, ◌*◌, ◌≤◌, ◌<◌}
+use Prim.Native.Nat.{ℕ, suc, ◌+◌, ◌-◌, ◌*◌, ◌<◌}
 use native.Mathlib.Nat.{sub-zero, mod-lt}
 use native.Mathlib.Numerals.{unary_clauses}
 use native.Mathlib.Omega.{arith}
@@ -10,7 +10,7 @@ use lib.ListN.{length, take, drop}
 use lib.Seq.{length-take-le}
 use lib.Pow.{pow_pos}
 use borrow.Author.Rules.{rules}
-use Rattle.lists.proofs.Parts.{piece_room}
+use Rattle.lists.proofs.Parts.{parts_fill, part_room}
 use Rattle.lists.proofs.Lent.{lent, front}
 use Rattle.lists.proofs.Filling.{lent_length}
 use Rattle.rules.specs.Places.{Bytes}
@@ -44,25 +44,20 @@ loop-j-init c =
       search rules,
     )
 
--- In a turn there is a part left.
-part_left : (j d part at : ℕ) {whole long : ℕ} → j < d → at ≡ j * part → whole ≡ d * long → part ≡ long
-    → at + part ≤ whole
-part_left j d part at h e f g = omega (arith, piece_room j d part h, f ∙ ap (λ x. d * x) (sym g))
-
 pub overflow_add-e : goal.overflow_add-e
 overflow_add-e c =
     let l = c.loop-j in
     let step = c.layer_bytes-step in
-    let room = part_left l.j c.args.d step.result l.at c.loop-j-test.true l.invariant.1 c.requires.sig_long
-    step.ensures in
+    let room = part_room l.j c.args.d step.result l.at c.loop-j-test.true l.invariant.1
+    (parts_fill c.args.d step.result c.requires.sig_long step.ensures) in
     omega (arith, room)
 
 pub slice_bounds-layer_root-end : goal.slice_bounds-layer_root-end
 slice_bounds-layer_root-end c =
     let l = c.loop-j in
     let step = c.layer_bytes-step in
-    let room = part_left l.j c.args.d step.result l.at c.loop-j-test.true l.invariant.1 c.requires.sig_long
-    step.ensures in
+    let room = part_room l.j c.args.d step.result l.at c.loop-j-test.true l.invariant.1
+    (parts_fill c.args.d step.result c.requires.sig_long step.ensures) in
     omega (arith, room)
 
 pub slice_bounds-layer_root-end-in-loop-j : goal.slice_bounds-layer_root-end-in-loop-j
@@ -74,8 +69,8 @@ layer_root-up-requires c =
     let l = c.loop-j in
     let n = a.kit.n in
     let step = c.layer_bytes-step in
-    let room = part_left l.j a.d step.result l.at c.loop-j-test.true l.invariant.1 c.requires.sig_long
-    step.ensures in (
+    let room = part_room l.j a.d step.result l.at c.loop-j-test.true l.invariant.1
+    (parts_fill a.d step.result c.requires.sig_long step.ensures) in (
       c.requires.small,
       ap (λ k. length (take k l.v)) (sub-zero n)
           ∙ length-take-le n l.v (omega (arith, l.invariant.4, c.requires.small)),

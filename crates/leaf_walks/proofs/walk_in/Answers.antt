@@ -5,7 +5,7 @@ use Prim.Native.Nat.{◌+◌, ◌-◌, ◌*◌, ◌≤◌}
 use native.Mathlib.Omega.{arith}
 use lib.ListN.{length, take, drop, get_or}
 use lib.Seq.{take_all}
-use Rattle.lists.proofs.Parts.{piece_room}
+use Rattle.lists.proofs.Parts.{part_room}
 use Rattle.lists.proofs.Filling.{part_written, part_length_lem, part_rest, lent_length, lent_split}
 use Rattle.rules.proofs.ChecksumLaws.{steps_le}
 use Rattle.calls.specs.Hashes.{hashes_of}
@@ -19,9 +19,9 @@ loop-i-init c = (omega arith, omega arith, refl, refl, omega arith)
 -- In a turn there is room for the next value, and the digit is below 16.
 pub chain_in-calls-requires : goal.chain_in-calls-requires
 chain_in-calls-requires c =
-    let room : c.loop-i.at + c.args.kit.n ≤ length c.loop-i.io =
-    omega (arith, piece_room c.loop-i.i (length c.args.ds.now) c.args.kit.n c.loop-i-test.true, c.requires.0) in
     let l = c.loop-i in
+    let room = part_room l.i (length c.args.ds.now) c.args.kit.n l.at c.loop-i-test.true l.invariant.1
+    (l.invariant.2 ∙ c.requires.0) in
     (lent_length l.at c.args.kit.n l.io room, omega (arith, c.requires.2 l.i))
 
 -- A turn makes 15 - digit calls.
@@ -41,11 +41,11 @@ overflow_add-calls c =
 
 pub loop-i-preserved : goal.loop-i-preserved
 loop-i-preserved c =
-    let room : c.loop-i.at + c.args.kit.n ≤ length c.loop-i.io =
-    omega (arith, piece_room c.loop-i.i (length c.args.ds.now) c.args.kit.n c.loop-i-test.true, c.requires.0) in
+    let l = c.loop-i in
+    let room = part_room l.i (length c.args.ds.now) c.args.kit.n l.at c.loop-i-test.true l.invariant.1
+    (l.invariant.2 ∙ c.requires.0) in
     let made : c.chain_in-calls.result ≡ 15 - get_or c.args.ds.now c.loop-i.i 0 =
     c.chain_in-calls.ensures.f_calls ∙ sym (chain_calls _ _ _ _ _) in
-    let l = c.loop-i in
     let a = c.args in
     let n = a.kit.n in
     let ys = c.chain_in-calls.new.io in
@@ -86,27 +86,24 @@ overflow_sub-d c =
 
 pub overflow_add-at : goal.overflow_add-at
 overflow_add-at c =
-    omega (
-      arith,
-      piece_room c.loop-i.i (length c.args.ds.now) c.args.kit.n c.loop-i-test.true,
-      c.requires.0,
-    )
+    let l = c.loop-i in
+    let room = part_room l.i (length c.args.ds.now) c.args.kit.n l.at c.loop-i-test.true l.invariant.1
+    (l.invariant.2 ∙ c.requires.0) in
+    omega (arith, room)
 
 pub slice_bounds-chain_in-end : goal.slice_bounds-chain_in-end
 slice_bounds-chain_in-end c =
-    omega (
-      arith,
-      piece_room c.loop-i.i (length c.args.ds.now) c.args.kit.n c.loop-i-test.true,
-      c.requires.0,
-    )
+    let l = c.loop-i in
+    let room = part_room l.i (length c.args.ds.now) c.args.kit.n l.at c.loop-i-test.true l.invariant.1
+    (l.invariant.2 ∙ c.requires.0) in
+    omega (arith, room)
 
 pub overflow_add-at-in-loop-i : goal.overflow_add-at-in-loop-i
 overflow_add-at-in-loop-i c =
-    omega (
-      arith,
-      piece_room c.loop-i.i (length c.args.ds.now) c.args.kit.n c.loop-i-test.true,
-      c.requires.0,
-    )
+    let l = c.loop-i in
+    let room = part_room l.i (length c.args.ds.now) c.args.kit.n l.at c.loop-i-test.true l.invariant.1
+    (l.invariant.2 ∙ c.requires.0) in
+    omega (arith, room)
 
 pub shape_of-io : goal.shape_of-io
 shape_of-io c = c.loop-i.invariant.2

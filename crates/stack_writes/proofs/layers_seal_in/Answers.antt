@@ -1,14 +1,14 @@
 -- `layers_seal_in` writes the layers' parts one after the other, each for the root that the one below leads to: what is
 -- written and what is left to write are the whole.
 -- Assumes nothing.
-use mathlib.Core.Path.{◌≡◌, refl, sym, ap, ◌∙◌}
-use Prim.Native.Nat.{ℕ, ◌+◌, ◌-◌, ◌*◌, ◌≤◌, ◌<◌}
+use mathlib.Core.Path.{◌≡◌, refl, ap, ◌∙◌}
+use Prim.Native.Nat.{ℕ, ◌+◌, ◌-◌, ◌*◌, ◌<◌}
 use native.Mathlib.Nat.{mod-lt}
 use native.Mathlib.Numerals.{unary_clauses}
 use native.Mathlib.Omega.{arith}
 use lib.ListN.{length, take, length-drop}
 use borrow.Author.Rules.{rules}
-use Rattle.lists.proofs.Parts.{piece_room}
+use Rattle.lists.proofs.Parts.{parts_fill, part_room}
 use Rattle.lists.proofs.Filling.{part_written, part_length_lem, lent_length, rest_read, rest_written}
 use Rattle.lists.proofs.Lent.{front_long}
 use Rattle.calls.specs.Hashes.{hashes_of}
@@ -17,14 +17,6 @@ use Rattle.stack_writes.proofs.layers_seal_in.Goals as goal
 
 pub loop-j-init : goal.loop-j-init
 loop-j-init c = (omega arith, omega arith, search rules, search rules, refl, simp unary_clauses refl)
-
--- All layers' parts fill the bytes lent.
-filled : (d step : ℕ) {out whole long : ℕ} → out ≡ whole → whole ≡ d * long → step ≡ long → out ≡ d * step
-filled d step e f g = e ∙ f ∙ ap (λ x. d * x) (sym g)
-
--- In a turn there is room for a layer's part.
-part_room : (j d step at : ℕ) {out : ℕ} → j < d → at ≡ j * step → out ≡ d * step → at + step ≤ out
-part_room j d step at h e f = omega (arith, piece_room j d step h)
 
 -- After the loop there is room for one more, and no more.
 last_room : (j d step at : ℕ) {out : ℕ} → d ≡ j + 1 → at ≡ j * step → out ≡ d * step → at + step ≡ out
@@ -35,7 +27,7 @@ overflow_add-e c =
     let l = c.loop-j in
     let step = c.layer_bytes-step in
     let room = part_room l.j c.args.d step.result l.at (omega arith) l.invariant.1
-    (filled c.args.d step.result l.invariant.4 c.requires.0.sig_long step.ensures) in
+    (l.invariant.4 ∙ parts_fill c.args.d step.result c.requires.0.sig_long step.ensures) in
     omega (arith, room)
 
 -- At each layer the value that it seals has n bytes, and there is room above its leaf's number.
@@ -47,7 +39,7 @@ slice_bounds-layer_up_in-end-in-loop-j c =
     let l = c.loop-j in
     let step = c.layer_bytes-step in
     let room = part_room l.j c.args.d step.result l.at (omega arith) l.invariant.1
-    (filled c.args.d step.result l.invariant.4 c.requires.0.sig_long step.ensures) in
+    (l.invariant.4 ∙ parts_fill c.args.d step.result c.requires.0.sig_long step.ensures) in
     omega (arith, room)
 
 pub layer_up_in-u-requires : goal.layer_up_in-u-requires
@@ -56,7 +48,7 @@ layer_up_in-u-requires c =
     let l = c.loop-j in
     let step = c.layer_bytes-step in
     let room = part_room l.j a.d step.result l.at (omega arith) l.invariant.1
-    (filled a.d step.result l.invariant.4 c.requires.0.sig_long step.ensures) in (
+    (l.invariant.4 ∙ parts_fill a.d step.result c.requires.0.sig_long step.ensures) in (
       c.requires.0.small,
       front_long a.kit.n l.v (omega (arith, l.invariant.3, c.requires.0.small)),
       leaf_room a.hp a.size l.k c.requires.0.leaves c.requires.1 l.invariant.2,
@@ -83,7 +75,7 @@ loop-j-preserved c =
     let n = a.kit.n in
     let step = c.layer_bytes-step.result in
     let room = part_room l.j a.d step l.at (omega arith) l.invariant.1
-    (filled a.d step l.invariant.4 c.requires.0.sig_long c.layer_bytes-step.ensures) in
+    (l.invariant.4 ∙ parts_fill a.d step c.requires.0.sig_long c.layer_bytes-step.ensures) in
     let leaves : 0 < a.size = omega (arith, l.invariant.2) in
     let up = c.layer_up_in-u in
     let ys = up.new.out in
@@ -107,7 +99,7 @@ slice_bounds-layer_seal_in-count-2 c =
     let l = c.loop-j in
     let step = c.layer_bytes-step in
     let rest = last_room l.j c.args.d step.result l.at (omega (arith, c.requires.0.some)) l.invariant.1
-    (filled c.args.d step.result l.invariant.4 c.requires.0.sig_long step.ensures) in
+    (l.invariant.4 ∙ parts_fill c.args.d step.result c.requires.0.sig_long step.ensures) in
     omega (arith, rest)
 
 pub slice_bounds-layer_seal_in-start-2 : goal.slice_bounds-layer_seal_in-start-2
@@ -115,7 +107,7 @@ slice_bounds-layer_seal_in-start-2 c =
     let l = c.loop-j in
     let step = c.layer_bytes-step in
     let rest = last_room l.j c.args.d step.result l.at (omega (arith, c.requires.0.some)) l.invariant.1
-    (filled c.args.d step.result l.invariant.4 c.requires.0.sig_long step.ensures) in
+    (l.invariant.4 ∙ parts_fill c.args.d step.result c.requires.0.sig_long step.ensures) in
     omega (arith, rest)
 
 pub layer_seal_in-requires : goal.layer_seal_in-requires
@@ -124,7 +116,7 @@ layer_seal_in-requires c =
     let l = c.loop-j in
     let step = c.layer_bytes-step in
     let rest = last_room l.j a.d step.result l.at (omega (arith, c.requires.0.some)) l.invariant.1
-    (filled a.d step.result l.invariant.4 c.requires.0.sig_long step.ensures) in (
+    (l.invariant.4 ∙ parts_fill a.d step.result c.requires.0.sig_long step.ensures) in (
       c.requires.0.small,
       front_long a.kit.n l.v (omega (arith, l.invariant.3, c.requires.0.small)),
       leaf_room a.hp a.size l.k c.requires.0.leaves c.requires.1 l.invariant.2,

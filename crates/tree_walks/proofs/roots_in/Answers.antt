@@ -1,14 +1,14 @@
 -- `roots_in` writes the trees' roots one after the other: what is written and what is left to walk are the whole, and
 -- the calls are as many as the trees walked.
 -- Assumes nothing.
-use mathlib.Core.Path.{◌≡◌, refl, sym, ap, ap₂, ◌∙◌}
+use mathlib.Core.Path.{◌≡◌, refl, ap, ap₂, ◌∙◌}
 use mathlib.Core.List.{◌++◌}
-use Prim.Native.Nat.{ℕ, ◌+◌, ◌-◌, ◌*◌, ◌^◌, ◌≤◌, ◌<◌}
+use Prim.Native.Nat.{◌+◌, ◌-◌, ◌*◌, ◌^◌, ◌≤◌}
 use native.Mathlib.Nat.{sub-zero}
 use native.Mathlib.Omega.{arith}
 use lib.ListN.{length, take, drop, get_or, length-take}
 use lib.Seq.{take_all, length-take-le}
-use Rattle.lists.proofs.Parts.{piece_room}
+use Rattle.lists.proofs.Parts.{piece_room, parts_fill, part_room}
 use Rattle.lists.proofs.Lent.{lent}
 use Rattle.lists.proofs.Filling.{lent_length}
 use Rattle.rules.specs.Forest.{forest_walk}
@@ -22,17 +22,12 @@ use Rattle.tree_walks.proofs.roots_in.Goals as goal
 pub loop-j-init : goal.loop-j-init
 loop-j-init c = (omega arith, omega arith, omega arith, omega arith, refl, refl, refl)
 
--- In a turn there is a part left.
-part_left : (j many part at : ℕ) {whole long : ℕ} → j < many → at ≡ j * part → whole ≡ many * long → part ≡ long
-    → at + part ≤ whole
-part_left j many part at h e f g = omega (arith, piece_room j many part h, f ∙ ap (λ x. many * x) (sym g))
-
 pub overflow_add-e : goal.overflow_add-e
 overflow_add-e c =
     let l = c.loop-j in
     let step = c.tree_bytes-step in
-    let room = part_left l.j (length c.args.ds.now) step.result l.at c.loop-j-test.true l.invariant.2
-    c.requires.lent_len.0 step.ensures in
+    let room = part_room l.j (length c.args.ds.now) step.result l.at c.loop-j-test.true l.invariant.2
+    (parts_fill (length c.args.ds.now) step.result c.requires.lent_len.0 step.ensures) in
     omega (arith, room)
 
 -- The digit of a turn is below the number of a tree's leaves, and there is room for its leaves' numbers.
@@ -52,16 +47,16 @@ pub slice_bounds-tree_root-end : goal.slice_bounds-tree_root-end
 slice_bounds-tree_root-end c =
     let l = c.loop-j in
     let step = c.tree_bytes-step in
-    let room = part_left l.j (length c.args.ds.now) step.result l.at c.loop-j-test.true l.invariant.2
-    c.requires.lent_len.0 step.ensures in
+    let room = part_room l.j (length c.args.ds.now) step.result l.at c.loop-j-test.true l.invariant.2
+    (parts_fill (length c.args.ds.now) step.result c.requires.lent_len.0 step.ensures) in
     omega (arith, room)
 
 pub tree_root-up-requires : goal.tree_root-up-requires
 tree_root-up-requires c =
     let l = c.loop-j in
     let step = c.tree_bytes-step in
-    let room = part_left l.j (length c.args.ds.now) step.result l.at c.loop-j-test.true l.invariant.2
-    c.requires.lent_len.0 step.ensures in
+    let room = part_room l.j (length c.args.ds.now) step.result l.at c.loop-j-test.true l.invariant.2
+    (parts_fill (length c.args.ds.now) step.result c.requires.lent_len.0 step.ensures) in
     (c.requires.sizes.0, lent_length l.at step.result c.args.sig.now room ∙ step.ensures)
 
 -- The root that a turn came to has room for n bytes.
