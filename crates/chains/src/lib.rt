@@ -36,20 +36,15 @@ pub fn chain_in(
     ensures f_calls { result ≡ count (Kind.of Function.F) (chain (hashes_of kit seed.now)
         (chain_step spot.layer spot.tree spot.pair c) io.old start steps).calls }
 {
-    let layer = spot.layer;
-    let tree = spot.tree;
-    let pair = spot.pair;
-    let mut k: u32 = 0;
-    while k < steps {
+    for k in 0..steps {
         f_in(
             kit,
             seed,
-            address_at(0, layer, tree, pair, c, start + k),
+            address_at(0, spot.layer, spot.tree, spot.pair, c, start + k),
             io,
         );
-        k += 1;
     }
-    k
+    steps
 }
 
 // The key's own value at a position of chain c.
@@ -65,7 +60,7 @@ fn own_chain(kit: Kit, seed: &[u8], sk: &[u8], spot: Spot, c: u32, steps: u32, o
         sk,
         out,
     );
-    let _f = chain_in(kit, seed, spot, c, 0, steps, out);
+    chain_in(kit, seed, spot, c, 0, steps, out);
 }
 
 // What a seal shows for the digits, chain after chain.
@@ -75,11 +70,8 @@ pub fn shown_in(kit: Kit, seed: &[u8], sk: &[u8], spot: Spot, ds: &[u32], out: &
         spot.layer spot.tree spot.pair sk.now 0 ds.now).result }
 {
     let n = kit.n;
-    let mut i: usize = 0;
-    let mut at: usize = 0;
-    while i < ds.len() {
-        own_chain(kit, seed, sk, spot, i as u32, ds[i], &mut out[at..at + n]);
-        at += n;
-        i += 1;
+    for (i, &d) in ds.iter().enumerate() {
+        let at = i * n;
+        own_chain(kit, seed, sk, spot, i as u32, d, &mut out[at..at + n]);
     }
 }

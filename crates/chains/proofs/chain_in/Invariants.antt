@@ -1,8 +1,7 @@
 -- `chain_in` takes the chain's steps one by one: what is left from where it is leads to where the whole leads.
 -- Assumes nothing.
 use mathlib.Core.Path.{◌≡◌}
-use Prim.Native.Nat.{◌+◌, ◌-◌, ◌≤◌}
-use lib.ListN.{length}
+use Prim.Native.Nat.{◌+◌, ◌-◌}
 use Rattle.rules.specs.Places.{chain_step}
 use Rattle.rules.specs.Chains.{chain}
 use Rattle.calls.specs.Hashes.{hashes_of}
@@ -10,10 +9,7 @@ use Rattle.chains.proofs.chain_in.Given as goal
 
 abbrev pub invariant-loop-k : goal.invariant-loop-k
 invariant-loop-k l =
-    (l.k ≤ l.steps) × (length l.io ≡ length l.initial.io)
-    × ((chain (hashes_of l.kit l.seed) (chain_step l.layer l.tree l.pair l.c)
+    (chain (hashes_of l.kit l.seed) (chain_step l.spot.layer l.spot.tree l.spot.pair l.c)
     l.io (l.start + l.k) (l.steps - l.k)).result
-    ≡ (chain (hashes_of l.kit l.seed) (chain_step l.layer l.tree l.pair l.c) l.initial.io l.start l.steps).result)
-
-abbrev pub decreases-loop-k : goal.decreases-loop-k
-decreases-loop-k l = l.steps - l.k
+    ≡ (chain (hashes_of l.kit l.seed) (chain_step l.spot.layer l.spot.tree l.spot.pair l.c)
+    l.initial.io l.start l.steps).result

@@ -1,18 +1,12 @@
 -- `own_chain` makes the secret value and takes the chain's steps from it.
 -- Assumes nothing.
-use mathlib.Core.Path.{◌∙◌}
-use native.Mathlib.Omega.{arith}
 use Rattle.calls.specs.Hashes.{hashes_of}
 use Rattle.chains.proofs.Loops.{own_made}
 use Rattle.chains.proofs.own_chain.Goals as goal
-
-pub chain_in-f-requires : goal.chain_in-f-requires
-chain_in-f-requires c =
-    (c.secret_in.auto.out ∙ c.requires.0, omega (arith, c.requires.1))
 
 pub returns : goal.returns
 returns c =
     let a = c.args in
     own_made (hashes_of a.kit a.seed.now) a.spot.layer a.spot.tree a.spot.pair a.sk.now a.c
     a.steps c.address_at.ensures c.secret_in.ensures
-    c.chain_in-f.ensures.io_after
+    c.chain_in.ensures.io_after

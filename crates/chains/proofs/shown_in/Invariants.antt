@@ -2,18 +2,14 @@
 -- Assumes nothing.
 use mathlib.Core.Path.{◌≡◌}
 use mathlib.Core.List.{◌++◌}
-use Prim.Native.Nat.{◌-◌, ◌*◌, ◌≤◌}
-use lib.ListN.{length, take, drop}
+use Prim.Native.Nat.{◌*◌}
+use lib.ListN.{take, drop}
 use Rattle.rules.specs.Chains.{shown}
 use Rattle.calls.specs.Hashes.{hashes_of}
 use Rattle.chains.proofs.shown_in.Given as goal
 
 abbrev pub invariant-loop-i : goal.invariant-loop-i
 invariant-loop-i l =
-    (l.i ≤ length l.ds) × (l.at ≡ l.i * l.n) × (length l.out ≡ length l.initial.out)
-    × (take l.at l.out ++ (shown (hashes_of l.kit l.seed)
+    take (l.i * l.n) l.out ++ (shown (hashes_of l.kit l.seed)
     l.spot.layer l.spot.tree l.spot.pair l.sk l.i (drop l.i l.ds)).result
-    ≡ (shown (hashes_of l.kit l.seed) l.spot.layer l.spot.tree l.spot.pair l.sk 0 l.ds).result)
-
-abbrev pub decreases-loop-i : goal.decreases-loop-i
-decreases-loop-i l = length l.ds - l.i
+    ≡ (shown (hashes_of l.kit l.seed) l.spot.layer l.spot.tree l.spot.pair l.sk 0 l.ds).result
