@@ -1,3 +1,2 @@
-pub mod GroveLaws
 pub mod ClimbLaws
 pub mod LeadLaws

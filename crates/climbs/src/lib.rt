@@ -27,8 +27,7 @@ fn up(kit: Kit, seed: &[u8], grove: Grove, z: u32, i: u32, v: [u8; 32], sibling:
         ≡ (hashes_of kit seed.now).hash Function.H (address (place_of grove (z + 1) (i / 2)))
         (join (i % 2) (take kit.n v) sibling.now) }
 {
-    let n = kit.n;
-    let own = &v[..n];
+    let own = &v[..kit.n];
     let adrs = node_address(grove, z + 1, i / 2);
     if i % 2 == 0 {
         h(kit, seed, adrs, own, sibling)
@@ -55,15 +54,12 @@ pub fn climb(
     let n = kit.n;
     let mut v = leaf;
     let mut j = i;
-    let mut z = 0;
-    let mut at = 0;
-    while z < count {
-        let e = at + n;
-        let u = up(kit, seed, grove, z, j, v, &auth[at..e]);
+    for z in 0..count {
+        let at = z as usize * n;
+        // Named first, since the check takes no array from a call into a variable that lives on.
+        let u = up(kit, seed, grove, z, j, v, &auth[at..at + n]);
         v = u;
-        j = j / 2;
-        at = e;
-        z += 1;
+        j /= 2;
     }
     v
 }

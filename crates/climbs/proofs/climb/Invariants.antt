@@ -1,7 +1,7 @@
 -- `climb` comes to the root of the rules: what is left to climb from each height on comes to the same as the whole.
 -- Assumes nothing.
 use mathlib.Core.Path.{◌≡◌}
-use Prim.Native.Nat.{◌-◌, ◌*◌, ◌≤◌}
+use Prim.Native.Nat.{◌-◌, ◌*◌}
 use lib.ListN.{take, drop}
 use Rattle.rules.specs.Trees.{climb}
 use Rattle.calls.specs.Hashes.{hashes_of}
@@ -10,10 +10,6 @@ use Rattle.climbs.proofs.climb.Given as goal
 
 abbrev pub invariant-loop-z : goal.invariant-loop-z
 invariant-loop-z l =
-    (l.z ≤ l.count) × (l.at ≡ l.z * l.kit.n)
-    × ((climb (hashes_of l.kit l.seed) (place_of l.grove)
-    (l.count - l.z) l.z l.j (take l.kit.n l.v) (drop l.at l.auth)).result
-    ≡ (climb (hashes_of l.kit l.seed) (place_of l.grove) l.count 0 l.i (take l.kit.n l.initial.v) l.auth).result)
-
-abbrev pub decreases-loop-z : goal.decreases-loop-z
-decreases-loop-z l = l.count - l.z
+    (climb (hashes_of l.kit l.seed) (place_of l.grove)
+    (l.count - l.z) l.z l.j (take l.kit.n l.v) (drop (l.z * l.kit.n) l.auth)).result
+    ≡ (climb (hashes_of l.kit l.seed) (place_of l.grove) l.count 0 l.i (take l.kit.n l.initial.v) l.auth).result
