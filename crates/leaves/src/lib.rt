@@ -27,19 +27,6 @@ pub fn compress(kit: Kit, seed: &[u8], spot: Spot, ends: &[u8]) -> [u8; 32]
     )
 }
 
-// What all chains show for the digits, compressed, with room lent for what they show.
-fn leaf_over(kit: Kit, seed: &[u8], sk: &[u8], spot: Spot, ds: &[u32], ends: &mut [u8]) -> [u8; 32]
-    requires { (kit.n ≤ 32) × (length ends.old ≡ length ds.now * kit.n) × (length ds.now < 2 ^ 32)
-        × Below 16 ds.now }
-    ensures { take kit.n result ≡ (hashes_of kit seed.now).hash Function.T
-        (address (chain_ends spot.layer spot.tree spot.pair))
-        (shown (hashes_of kit seed.now) spot.layer spot.tree spot.pair sk.now 0
-        ds.now).result }
-{
-    shown_in(kit, seed, sk, spot, ds, ends);
-    compress(kit, seed, spot, ends)
-}
-
 // The leaf: every chain ends at position 15.
 pub fn leaf(kit: Kit, seed: &[u8], sk: &[u8], spot: Spot) -> [u8; 32]
     requires { kit.n ≤ 32 }
@@ -50,5 +37,7 @@ pub fn leaf(kit: Kit, seed: &[u8], sk: &[u8], spot: Spot) -> [u8; 32]
     let size = chain_bytes(kit.n);
     let fifteens = [15u32; 67];
     let mut ends = [0u8; 2144];
-    leaf_over(kit, seed, sk, spot, &fifteens[0..len], &mut ends[0..size])
+    let ends = &mut ends[..size];
+    shown_in(kit, seed, sk, spot, &fifteens[..len], ends);
+    compress(kit, seed, spot, ends)
 }
