@@ -4,17 +4,16 @@
 use mathlib.Core.Path.{◌≡◌, sym, ap, ◌∙◌}
 use mathlib.Core.List.{List, ◌++◌, append_assoc, append-nil}
 use Prim.Native.Nat.{ℕ, ◌+◌, ◌-◌, ◌*◌, ◌≤◌, ◌<◌}
-use native.Mathlib.Omega.{arith}
 use native.Mathlib.Numerals.{add-one}
 use native.Mathlib.Nat.{add-zero, mul-one}
 use lib.ListN.{length, drop, get_or, drop_of_length-le}
-use lib.Seq.{drop-cons, take_all, take_at, drop_at}
-use Rattle.parts.specs.Put.{Put}
+use lib.Seq.{drop-cons, take_at, drop_at}
 use Rattle.rules.specs.Places.{Bytes, chain_step, chain_ends, address}
 use Rattle.rules.specs.Calls.{F, T, of, Hashes}
 use Rattle.rules.specs.Chains.{steps, chain_digits, chain, walk, leaf_from}
 use Rattle.counts.specs.Counts.{is, count}
 use Rattle.counts.proofs.CountLaws.{walk_count, leaf_count}
+use Rattle.chains.proofs.Loops.{chain_calls}
 
 module _ (w : Hashes) (l t p : ℕ) where
   -- A turn of the walk: chain i's end, and then the rest of the values.
@@ -37,12 +36,20 @@ module _ (w : Hashes) (l t p : ℕ) where
   unfolding is
   walk_calls ds sig = sym (walk_count w (of F) l t p 0 ds sig ∙ mul-one (steps ds))
 
--- The steps left from chain i on: chain i's, and then the rest.
-pub steps_turn : (ds : List ℕ) (i : ℕ) → i < length ds
-    → steps (drop i ds) ≡ 15 - get_or ds i 0 + steps (drop (i + 1) ds)
-unfolding steps
-steps_turn ds i h = rw (drop-cons ds i 0 h, add-one i)
+  -- The steps left from chain i on: its calls, and then the rest.
+  pub steps_turn : (ds : List ℕ) (i : ℕ) (x : Bytes) {calls : ℕ} → i < length ds
+      → calls ≡ count (of F) (chain w (chain_step l t p i) x (get_or ds i 0) (15 - get_or ds i 0)).calls
+      → steps (drop i ds) ≡ calls + steps (drop (i + 1) ds)
+  unfolding steps
+  steps_turn ds i x h made =
+      rw (
+        made,
+        ← chain_calls w (chain_step l t p i) x (get_or ds i 0) (15 - get_or ds i 0),
+        drop-cons ds i 0 h,
+        add-one i,
+      )
 
+-- Beyond the last chain no steps are left.
 pub steps_end : (ds : List ℕ) (i : ℕ) → length ds ≤ i → steps (drop i ds) ≡ 0
 unfolding steps
 steps_end ds i h = rw (drop_of_length-le ds h)
@@ -62,9 +69,3 @@ module _ (w : Hashes) (l t p : ℕ) (sig m : Bytes) where
   from_calls {ds} starts e g =
       g ∙ walk_count w (of F) l t p 0 ds starts ∙ ap (λ (x : List ℕ). steps x * 1) e
       ∙ sym (leaf_count w (of F) l t p sig m ∙ add-zero _)
-
--- A string over which another of its length was put is that other.
-pub put_whole : (before piece after : Bytes) (end : ℕ) → length before ≡ length piece → length after ≡ length before
-    → Put before 0 piece after end → after ≡ piece
-put_whole before piece after end l k q =
-    sym (take_all end after (omega (arith, q.ends))) ∙ q.front

@@ -15,7 +15,6 @@ use chains::{Spot, chain_in};
 use climbs::Walked;
 use digits::chain_digits;
 use leaves::compress;
-use parts::put;
 use rows::sizes::{chain_bytes, chain_count};
 
 // From the shown values on to the ends, in place. Returns the F calls.
@@ -27,41 +26,12 @@ fn walk_in(kit: Kit, seed: &[u8], spot: Spot, ds: &[u32], io: &mut [u8]) -> u32
         spot.layer spot.tree spot.pair 0 ds.now io.old).calls }
 {
     let n = kit.n;
-    let mut i: usize = 0;
-    let mut at: usize = 0;
     let mut calls: u32 = 0;
-    while i < ds.len() {
-        let d = ds[i];
+    for (i, &d) in ds.iter().enumerate() {
+        let at = i * n;
         calls += chain_in(kit, seed, spot, i as u32, d, 15 - d, &mut io[at..at + n]);
-        at += n;
-        i += 1;
     }
     calls
-}
-
-// The leaf that the shown values `sig` lead to for the value m, with room lent for digits and ends.
-fn leaf_from_over(
-    kit: Kit,
-    seed: &[u8],
-    spot: Spot,
-    sig: &[u8],
-    m: &[u8],
-    ds: &mut [u32],
-    ends: &mut [u8],
-) -> Walked
-    requires from { From kit (length sig.now) (length m.now) }
-    requires lent_len { (length ds.old ≡ chains kit.n) × (length ends.old ≡ chains kit.n * kit.n) }
-    ensures { Leads kit.n (leaf_from (hashes_of kit seed.now)
-        spot.layer spot.tree spot.pair sig.now m.now) result }
-{
-    chain_digits(m, ds);
-    let _e = put(ends, 0, sig);
-    let calls = walk_in(kit, seed, spot, ds, ends);
-    let value = compress(kit, seed, spot, ends);
-    Walked {
-        value: value,
-        calls: calls,
-    }
 }
 
 // The leaf that the shown values `sig` lead to for the value m.
@@ -74,5 +44,11 @@ pub fn leaf_from(kit: Kit, seed: &[u8], spot: Spot, sig: &[u8], m: &[u8]) -> Wal
     let size = chain_bytes(kit.n);
     let mut ds = [0u32; 67];
     let mut ends = [0u8; 2144];
-    leaf_from_over(kit, seed, spot, sig, m, &mut ds[0..len], &mut ends[0..size])
+    let ds = &mut ds[..len];
+    let ends = &mut ends[..size];
+    chain_digits(m, ds);
+    ends.copy_from_slice(sig);
+    let calls = walk_in(kit, seed, spot, ds, ends);
+    let value = compress(kit, seed, spot, ends);
+    Walked { value, calls }
 }

@@ -2,19 +2,16 @@
 -- Assumes nothing.
 use mathlib.Core.Path.{◌≡◌}
 use mathlib.Core.List.{◌++◌}
-use Prim.Native.Nat.{◌+◌, ◌-◌, ◌*◌, ◌≤◌}
-use lib.ListN.{length, take, drop}
+use Prim.Native.Nat.{◌+◌, ◌*◌}
+use lib.ListN.{take, drop}
 use Rattle.rules.specs.Chains.{steps, walk}
 use Rattle.calls.specs.Hashes.{hashes_of}
 use Rattle.leaf_walks.proofs.walk_in.Given as goal
 
 abbrev pub invariant-loop-i : goal.invariant-loop-i
-invariant-loop-i l =
-    (l.i ≤ length l.ds) × (l.at ≡ l.i * l.n) × (length l.io ≡ length l.initial.io)
-    × (take l.at l.io ++ (walk (hashes_of l.kit l.seed) l.spot.layer l.spot.tree l.spot.pair l.i
-    (drop l.i l.ds) (drop l.at l.io)).result
-    ≡ (walk (hashes_of l.kit l.seed) l.spot.layer l.spot.tree l.spot.pair 0 l.ds l.initial.io).result)
-    × (l.calls + steps (drop l.i l.ds) ≡ steps l.ds)
-
-abbrev pub decreases-loop-i : goal.decreases-loop-i
-decreases-loop-i l = length l.ds - l.i
+invariant-loop-i l = record {
+  walked : take (l.i * l.n) l.io ++ (walk (hashes_of l.kit l.seed) l.spot.layer l.spot.tree l.spot.pair l.i
+      (drop l.i l.ds) (drop (l.i * l.n) l.io)).result
+      ≡ (walk (hashes_of l.kit l.seed) l.spot.layer l.spot.tree l.spot.pair 0 l.ds l.initial.io).result;
+  counted : l.calls + steps (drop l.i l.ds) ≡ steps l.ds;
+}
