@@ -9,7 +9,6 @@ use native.Mathlib.Omega.{arith}
 use lib.ListN.{length, take, drop, get_or, drop_of_length-le}
 use lib.Seq.{take-take, drop-drop, drop-cons}
 use Rattle.lists.proofs.Parts.{drop_take}
-use Rattle.lists.proofs.Lent.{front}
 use Rattle.lists.proofs.Filling.{rest_read}
 use Rattle.rules.specs.Places.{Bytes, forest_node, address}
 use Rattle.rules.specs.Calls.{F, of, Hashes}
@@ -19,22 +18,15 @@ use Rattle.counts.specs.Counts.{is, count}
 use Rattle.counts.proofs.CountLaws.{climb_count, forest_walk_count}
 use Rattle.tree_walks.specs.Tree.{tree_run}
 
--- A turn of the numbers: with tree j of k at most k trees are walked, and the place of the next piece of m.
-pub next_tree : (j k : ℕ) → j < k → j + 1 ≤ k
-next_tree j k h = omega (arith, h)
-
-pub next_place : (j m : ℕ) {x : ℕ} → x ≡ j * m → x + m ≡ (j + 1) * m
-next_place j m e = omega (arith, e)
-
 module _ (w : Hashes) (t p a : ℕ) where
   -- A tree of the forest: F of its secret value, and the climb.
   pub tree_made : (i : ℕ) (part : Bytes) {at leaf root : Bytes} → at ≡ address (forest_node t p 0 i)
-      → leaf ≡ w.hash F at (take (w.n - 0) part)
+      → leaf ≡ w.hash F at (take w.n part)
       → root ≡ (climb w (forest_node t p) a 0 i leaf (take (length part - w.n) (drop w.n part))).result
       → root ≡ (tree_run w t p a i part).result
   tree_made i part e f g =
       g ∙ ap₂ (λ v auth. (climb w (forest_node t p) a 0 i v auth).result)
-      (f ∙ ap₂ (λ x y. w.hash F x y) e (front w.n part)) (rest_read w.n part)
+      (f ∙ ap (λ x. w.hash F x (take w.n part)) e) (rest_read w.n part)
 
   -- It makes one F call: the climb makes none.
   pub tree_calls : (i : ℕ) (part : Bytes) {calls : ℕ} → calls ≡ count (of F) (tree_run w t p a i part).calls

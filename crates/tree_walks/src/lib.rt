@@ -15,7 +15,6 @@ use addresses::address_at;
 use calls::{Kit, f};
 use climbs::groves::Grove;
 use climbs::{Walked, climb};
-use parts::put;
 use rows::sizes::tree_bytes;
 
 // The root of a forest's tree, from its secret value and its path, at leaf i of all trees.
@@ -24,12 +23,9 @@ fn tree_root(kit: Kit, seed: &[u8], tree: u64, pair: u32, a: u32, i: u32, part: 
     ensures { Leads kit.n (tree_run (hashes_of kit seed.now) tree pair a i part.now) result }
 {
     let n = kit.n;
-    let leaf = f(kit, seed, address_at(3, 0, tree, pair, 0, i), &part[0..n]);
+    let leaf = f(kit, seed, address_at(3, 0, tree, pair, 0, i), &part[..n]);
     let value = climb(kit, seed, Grove::Forest(tree, pair), a, i, leaf, &part[n..]);
-    Walked {
-        value: value,
-        calls: 1,
-    }
+    Walked { value, calls: 1 }
 }
 
 // The roots of all trees, one after the other; size is the number of a tree's leaves, 2^a. Returns the F calls.
@@ -55,20 +51,12 @@ pub fn roots_in(
     let n = kit.n;
     let step = tree_bytes(n, a);
     let mut calls: u32 = 0;
-    let mut j: usize = 0;
-    let mut base: u32 = 0;
-    let mut at: usize = 0;
-    let mut o: usize = 0;
-    while j < ds.len() {
-        let e = at + step;
-        let up = tree_root(kit, seed, tree, pair, a, base + ds[j], &sig[at..e]);
-        let c = up.calls;
-        let v = up.value;
-        o = put(out, o, &v[0..n]);
-        calls += c;
-        at = e;
-        base += size;
-        j += 1;
+    for (j, &d) in ds.iter().enumerate() {
+        let base = j as u32 * size;
+        let at = j * step;
+        let up = tree_root(kit, seed, tree, pair, a, base + d, &sig[at..at + step]);
+        out[j * n..j * n + n].copy_from_slice(&up.value[..n]);
+        calls += up.calls;
     }
     calls
 }

@@ -3,20 +3,16 @@
 -- Assumes nothing.
 use mathlib.Core.Path.{◌≡◌}
 use mathlib.Core.List.{◌++◌}
-use Prim.Native.Nat.{◌-◌, ◌*◌, ◌≤◌}
-use lib.ListN.{length, take, drop}
+use Prim.Native.Nat.{◌*◌}
+use lib.ListN.{take, drop}
 use Rattle.rules.specs.Forest.{forest_walk}
 use Rattle.calls.specs.Hashes.{hashes_of}
 use Rattle.tree_walks.proofs.roots_in.Given as goal
 
 abbrev pub invariant-loop-j : goal.invariant-loop-j
-invariant-loop-j l =
-    (l.j ≤ length l.ds) × (l.base ≡ l.j * l.size) × (l.at ≡ l.j * l.step) × (l.o ≡ l.j * l.n)
-    × (length l.out ≡ length l.initial.out)
-    × (take l.o l.out ++ (forest_walk (hashes_of l.kit l.seed) l.tree l.pair l.a l.j
-    (drop l.j l.ds) (drop l.at l.sig)).result
-    ≡ (forest_walk (hashes_of l.kit l.seed) l.tree l.pair l.a 0 l.ds l.sig).result)
-    × (l.calls ≡ l.j)
-
-abbrev pub decreases-loop-j : goal.decreases-loop-j
-decreases-loop-j l = length l.ds - l.j
+invariant-loop-j l = record {
+  walked : take (l.j * l.n) l.out ++ (forest_walk (hashes_of l.kit l.seed) l.tree l.pair l.a l.j
+      (drop l.j l.ds) (drop (l.j * l.step) l.sig)).result
+      ≡ (forest_walk (hashes_of l.kit l.seed) l.tree l.pair l.a 0 l.ds l.sig).result;
+  counted : l.calls ≡ l.j;
+}
