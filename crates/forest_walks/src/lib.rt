@@ -13,31 +13,6 @@ use calls::{Kit, t};
 use climbs::Walked;
 use tree_walks::roots_in;
 
-// What layer 0 seals, from the forest's part of a seal, with room lent for the roots.
-fn forest_root_over(
-    kit: Kit,
-    seed: &[u8],
-    tree: u64,
-    pair: u32,
-    a: u32,
-    ds: &[u32],
-    sig: &[u8],
-    roots: &mut [u8],
-) -> Walked
-    requires wood { Wood kit.n a (length ds.now) (length sig.now) × Below (2 ^ a) ds.now }
-    requires roots_len { length roots.old ≡ length ds.now * kit.n }
-    ensures { Leads kit.n (forest_root (hashes_of kit seed.now) tree pair a
-        ds.now sig.now) result }
-{
-    let leaves = 1u32 << a;
-    let calls = roots_in(kit, seed, tree, pair, a, leaves, ds, sig, roots);
-    let value = t(kit, seed, address_at(4, 0, tree, pair, 0, 0), roots);
-    Walked {
-        value: value,
-        calls: calls,
-    }
-}
-
 // What layer 0 seals, from the forest's part of a seal.
 pub fn forest_root(
     kit: Kit,
@@ -52,7 +27,11 @@ pub fn forest_root(
     ensures { Leads kit.n (forest_root (hashes_of kit seed.now) tree pair a
         ds.now sig.now) result }
 {
+    let leaves = 1u32 << a;
     let size = ds.len() * kit.n;
     let mut roots = [0u8; 1120];
-    forest_root_over(kit, seed, tree, pair, a, ds, sig, &mut roots[0..size])
+    let roots = &mut roots[..size];
+    let calls = roots_in(kit, seed, tree, pair, a, leaves, ds, sig, roots);
+    let value = t(kit, seed, address_at(4, 0, tree, pair, 0, 0), roots);
+    Walked { value, calls }
 }

@@ -1,20 +1,36 @@
--- `forest_root` lends `forest_root_over` room for 35 roots of 32 bytes.
+-- `forest_root` compresses the roots that the trees' parts lead to.
 -- Assumes nothing.
 use Prim.Native.Nat.{◌*◌}
-use native.Mathlib.Omega.{arith}
-use lib.ListN.{length}
-use Rattle.lists.proofs.Parts.{zeros_part}
+use borrow.Author.Rules.{rules}
+use lib.ListN.{length, replicate}
+use lib.Seq.{length-take-le}
+use Rattle.lists.proofs.Bits.{one_shifted}
 use Rattle.rows.proofs.SizeLaws.{wood_fits}
+use Rattle.calls.specs.Hashes.{hashes_of}
+use Rattle.forest_walks.proofs.ForestLaws.{forest_made, forest_calls}
 use Rattle.forest_walks.proofs.forest_root.Goals as goal
 
-pub slice_bounds-roots-end : goal.slice_bounds-roots-end
-slice_bounds-roots-end c =
-    omega (arith, wood_fits (length c.args.ds.now) c.args.kit.n c.requires.0.few c.requires.0.small)
-
-pub forest_root_over-requires : goal.forest_root_over-requires
-forest_root_over-requires c =
-    let k = length c.args.ds.now in
+pub roots_in-calls-requires : goal.roots_in-calls-requires
+roots_in-calls-requires c =
+    let wood = c.requires.0 in
+    let e = one_shifted c.args.a 32 wood.low in
+    let size = length c.args.ds.now * c.args.kit.n in
     record {
-      wood = c.requires;
-      roots_len = zeros_part (k * c.args.kit.n) 1120 (wood_fits k c.args.kit.n c.requires.0.few c.requires.0.small);
+      sizes = (wood.small, e, rw e wood.leaves, rw e c.requires.1);
+      lent_len = (
+        wood.sig_long,
+        length-take-le size (replicate 1120 0) (wood_fits (length c.args.ds.now) c.args.kit.n wood.few wood.small),
+        wood.few,
+      );
+    }
+
+pub returns : goal.returns
+returns c =
+    let a = c.args in
+    let w = hashes_of a.kit a.seed.now in
+    record {
+      value_is = forest_made w a.tree a.pair a.a a.ds.now a.sig.now
+          c.address_at.ensures c.roots_in-calls.ensures.out_after c.t-value.ensures;
+      counted = forest_calls w a.tree a.pair a.a a.ds.now a.sig.now c.roots_in-calls.ensures.f_calls;
+      value_long = search rules;
     }
