@@ -5,7 +5,6 @@ use mathlib.Core.Path.{◌≡◌, sym, ap, ap₂, ◌∙◌}
 use Prim.Native.Nat.{ℕ, ◌-◌, ◌*◌}
 use native.Mathlib.Omega.{arith}
 use lib.ListN.{length, take, drop}
-use Rattle.lists.proofs.Lent.{front}
 use Rattle.lists.proofs.Filling.{rest_read}
 use Rattle.rules.specs.Places.{Bytes, tree_node}
 use Rattle.rules.specs.Calls.{F, of, Hashes}
@@ -19,13 +18,13 @@ module _ (w : Hashes) where
   -- A layer: the leaf that its chain values lead to, and the climb.
   module _ (h' l t i : ℕ) (sig m : Bytes) where
     pub layer_made : (size : ℕ) {leaf root : Bytes} → size ≡ chains w.n * w.n
-        → leaf ≡ (leaf_from w l t i (take (size - 0) sig) m).result
+        → leaf ≡ (leaf_from w l t i (take size sig) m).result
         → root ≡ (climb w (tree_node l t) h' 0 i leaf (take (length sig - size) (drop size sig))).result
         → root ≡ (layer_root w h' l t i sig m).result
     unfolding layer_root chain_bytes
     layer_made size e f g =
         g ∙ ap₂ (λ v auth. (climb w (tree_node l t) h' 0 i v auth).result)
-        (f ∙ ap (λ x. (leaf_from w l t i x m).result) (front size sig ∙ ap (λ k. take k sig) e))
+        (f ∙ ap (λ k. (leaf_from w l t i (take k sig) m).result) e)
         (rest_read size sig ∙ ap (λ k. drop k sig) e)
 
     pub layer_calls : (chained : Bytes) {calls : ℕ} → calls ≡ count (of F) (leaf_from w l t i chained m).calls

@@ -1,13 +1,15 @@
 -- The layers as a loop walks them: k layers from layer l on, each on what the one below led to. With as many bytes as
 -- the layers have, that is the rules' walk.
 -- Assumes nothing.
-use mathlib.Core.Path.{◌≡◌, sym, ap, ap₂, ◌∙◌}
+use mathlib.Core.Path.{◌≡◌, sym, ap, ◌∙◌}
 use mathlib.Core.List.{[]}
 use Prim.Native.Nat.{ℕ, zero, suc, ◌+◌, ◌-◌, ◌*◌, ◌/◌, ◌%◌, ◌^◌, ◌≤◌, ◌<◌}
-use native.Mathlib.Nat.{suc-mul, add-zero, zero-add, sub-zero}
+use native.Mathlib.Nat.{suc-mul, add-zero}
+use native.Mathlib.Numerals.{add-one}
 use native.Mathlib.Omega.{arith}
 use lib.ListN.{length, take, drop, length-drop}
 use lib.Seq.{take_all, drop-drop}
+use Rattle.lists.proofs.Lent.{lent}
 use Rattle.rules.specs.Places.{Bytes}
 use Rattle.rules.specs.Calls.{F, of, Hashes, Run, return, ◌>>=◌}
 use Rattle.rules.specs.Chains.{chains, chain_digits}
@@ -49,42 +51,29 @@ module _ (w : Hashes) (h' : ℕ) where
       (simp length-drop (omega (arith, suc-mul (suc above) step))))
       ∙ sym (count_append (of F) (layer_root w h' l t i (take step sig) M).calls _)
 
-  -- At the start the whole walk is left.
-  pub up_start : (d t i : ℕ) (M sig : Bytes)
-      → 0 + count (of F) (up_run (d - 0) 0 t i M sig).calls ≡ count (of F) (up_run d 0 t i M sig).calls
-  up_start d t i M sig = zero-add _ ∙ ap (λ k. count (of F) (up_run k 0 t i M sig).calls) (sub-zero d)
-
   -- A turn: one layer more, and its calls, where a layer's part has `part` bytes.
   pub up_turn : (d j t i at size part : ℕ) (M sig root : Bytes) {whole : Bytes} → j < d → size ≡ 2 ^ h' → part ≡ step
-      → root ≡ (layer_root w h' j t i (take part (drop at sig)) M).result
+      → root ≡ (layer_root w h' j t i (take (at + part - at) (drop at sig)) M).result
       → (up_run (d - j) j t i M (drop at sig)).result ≡ whole
       → (up_run (d - (j + 1)) (j + 1) (t / size) (t % size) root (drop (at + part) sig)).result ≡ whole
   unfolding up_run
   up_turn d j t i at size part M sig root h s p e q =
       let left : d - j ≡ suc (d - (j + 1)) = omega arith in
-      let next : j + 1 ≡ suc j = omega arith in
-      rw p (ap₂ (λ x y. (up_run (d - (j + 1)) (j + 1) (t / x) (t % x) y (drop (at + step) sig)).result) s (rw p at e)
-      ∙ ap₂ (λ x y. (up_run (d - (j + 1)) x (t / 2 ^ h') (t % 2 ^ h')
-      (layer_root w h' j t i (take step (drop at sig)) M).result y).result) next (sym (drop-drop step at sig))
-      ∙ rw left at q)
+      rw (s, p, add-one j, ← drop-drop step at sig, rw (p, lent at step sig) at e) (rw (left, add-one j) at q)
 
-  pub up_turn_calls : (d j t i at size part : ℕ) (M sig root : Bytes) → j < d → size ≡ 2 ^ h' → part ≡ step
-      → root ≡ (layer_root w h' j t i (take part (drop at sig)) M).result
+  -- What a turn calls, and what is left after it, is what was left before it.
+  pub up_turn_calls : (d j t i at size part : ℕ) (M sig root : Bytes) {calls : ℕ} → j < d → size ≡ 2 ^ h'
+      → part ≡ step → root ≡ (layer_root w h' j t i (take (at + part - at) (drop at sig)) M).result
+      → calls ≡ count (of F) (layer_root w h' j t i (take (at + part - at) (drop at sig)) M).calls
       → count (of F) (up_run (d - j) j t i M (drop at sig)).calls
-      ≡ count (of F) (layer_root w h' j t i (take part (drop at sig)) M).calls
-      + count (of F) (up_run (d - (j + 1)) (j + 1) (t / size) (t % size) root (drop (at + part) sig)).calls
+      ≡ calls + count (of F) (up_run (d - (j + 1)) (j + 1) (t / size) (t % size) root (drop (at + part) sig)).calls
   unfolding up_run
-  up_turn_calls d j t i at size part M sig root h s p e =
+  up_turn_calls d j t i at size part M sig root h s p e g =
       let left : d - j ≡ suc (d - (j + 1)) = omega arith in
-      let next : j + 1 ≡ suc j = omega arith in
-      rw p (ap (λ k. count (of F) (up_run k j t i M (drop at sig)).calls) left
-      ∙ count_append (of F) (layer_root w h' j t i (take step (drop at sig)) M).calls _
-      ∙ ap (λ x. count (of F) (layer_root w h' j t i (take step (drop at sig)) M).calls + x)
-      (sym (ap₂ (λ x y. count (of F) (up_run (d - (j + 1)) (j + 1) (t / x) (t % x) y (drop (at + step) sig)).calls) s
-      (rw p at e)
-      ∙ ap₂ (λ x y. count (of F) (up_run (d - (j + 1)) x (t / 2 ^ h') (t % 2 ^ h')
-      (layer_root w h' j t i (take step (drop at sig)) M).result y).calls) next (sym (drop-drop step at sig)))))
+      rw (left, add-one j, g, s, p, ← drop-drop step at sig, rw (p, lent at step sig) at e, lent at step sig)
+      (count_append (of F) (layer_root w h' j t i (take step (drop at sig)) M).calls _)
 
+  -- Above the last layer nothing is left.
   pub up_end : (d j t i : ℕ) (M sig : Bytes) → d ≤ j
       → ((up_run (d - j) j t i M sig).result ≡ M) × (count (of F) (up_run (d - j) j t i M sig).calls ≡ 0)
   unfolding up_run count

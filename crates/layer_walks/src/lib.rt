@@ -31,28 +31,25 @@ pub fn layer_root(
     ensures { Leads kit.n (layer_root (hashes_of kit seed.now) hp layer tree i
         sig.now m.now) result }
 {
-    let n = kit.n;
-    let size = chain_bytes(n);
+    let size = chain_bytes(kit.n);
     let spot = Spot {
-        layer: layer,
-        tree: tree,
+        layer,
+        tree,
         pair: i,
     };
-    let low = leaf_from(kit, seed, spot, &sig[0..size], m);
-    let calls = low.calls;
-    let leaf = low.value;
+    let low = leaf_from(kit, seed, spot, &sig[..size], m);
     let value = climb(
         kit,
         seed,
         Grove::Layer(layer, tree),
         hp,
         i,
-        leaf,
+        low.value,
         &sig[size..],
     );
     Walked {
-        value: value,
-        calls: calls,
+        value,
+        calls: low.calls,
     }
 }
 
@@ -75,26 +72,17 @@ pub fn layers_root(
 {
     let n = kit.n;
     let step = layer_bytes(n, hp);
-    let mut v = m;
+    let mut value = m;
     let mut t = tree;
     let mut k = i;
     let mut calls: u32 = 0;
-    let mut at: usize = 0;
-    let mut j: u32 = 0;
-    while j < d {
-        let e = at + step;
-        let up = layer_root(kit, seed, j, t, k, hp, &sig[at..e], &v[0..n]);
-        let c = up.calls;
-        let u = up.value;
-        v = u;
-        calls += c;
+    for j in 0..d {
+        let at = j as usize * step;
+        let up = layer_root(kit, seed, j, t, k, hp, &sig[at..at + step], &value[..n]);
+        value = up.value;
+        calls += up.calls;
         k = (t % size) as u32;
-        t = t / size;
-        at = e;
-        j += 1;
+        t /= size;
     }
-    Walked {
-        value: v,
-        calls: calls,
-    }
+    Walked { value, calls }
 }
