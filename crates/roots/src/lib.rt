@@ -32,14 +32,20 @@ pub fn root_at(row: Row, seed: &[u8], pointed: Pointed, indices: &[u32], seal: &
     let leaf = pointed.leaf;
     let end = n + forest_bytes(n, row.a, row.k);
     let low = forest_root(kit, seed, tree, leaf, row.a, indices, &seal[n..end]);
-    let below = low.calls;
-    let v = low.value;
     let size = 1u64 << row.hp;
-    let top = layers_root(kit, seed, row.hp, size, row.d, tree, leaf, v, &seal[end..]);
-    let above = top.calls;
-    let root = top.value;
+    let top = layers_root(
+        kit,
+        seed,
+        row.hp,
+        size,
+        row.d,
+        tree,
+        leaf,
+        low.value,
+        &seal[end..],
+    );
     Walked {
-        value: root,
-        calls: below + above,
+        calls: low.calls + top.calls,
+        ..top
     }
 }

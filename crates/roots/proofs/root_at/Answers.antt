@@ -1,23 +1,11 @@
 -- `root_at` walks the forest's part and then, on what it led to, the layers' parts.
 -- Assumes nothing.
-use native.Mathlib.Omega.{arith}
 use Rattle.rows.specs.Rows.{ruled_row}
 use Rattle.calls.specs.Hashes.{family_for}
-use Rattle.rows.proofs.SizeLaws.{forest_room, seal_size}
 use Rattle.rows.proofs.ShapeLaws.{wood, stack}
 use Rattle.points.specs.At.{at}
 use Rattle.roots.proofs.RootLaws.{forest_long, rest_long, root_made, root_calls, few_calls}
 use Rattle.roots.proofs.root_at.Goals as goal
-
-pub overflow_add-end : goal.overflow_add-end
-overflow_add-end c =
-    let small = forest_room (ruled_row c.args.row) c.requires.ready.0 in
-    record { fits = omega (arith, c.forest_bytes.ensures, small, c.requires.ready.0.fit.values) }
-
--- The forest's part lies within the seal.
-pub slice_bounds-forest_root-end : goal.slice_bounds-forest_root-end
-slice_bounds-forest_root-end c =
-    omega (arith, c.forest_bytes.ensures, c.requires.ready.1, seal_size (ruled_row c.args.row) c.requires.ready.0)
 
 pub forest_root-low-requires : goal.forest_root-low-requires
 forest_root-low-requires c =
@@ -25,20 +13,6 @@ forest_root-low-requires c =
     let long = forest_long r c.args.seal.now c.requires.ready.0 c.requires.ready.1 in
     rw (c.kit_of-kit.ensures, c.forest_bytes.ensures)
     (wood r c.requires.ready.0 _ _ c.requires.indices_fit.0 long, c.requires.indices_fit.1)
-
-pub overflow_shl-size : goal.overflow_shl-size
-overflow_shl-size c =
-    omega (arith, c.requires.ready.0.fit.heights)
-
--- The layers' parts begin within the seal.
-pub slice_bounds-layers_root-count : goal.slice_bounds-layers_root-count
-slice_bounds-layers_root-count c =
-    omega (arith, c.forest_bytes.ensures, c.requires.ready.1, seal_size (ruled_row c.args.row) c.requires.ready.0)
-
--- The layers' parts begin within the seal.
-pub slice_bounds-layers_root-start : goal.slice_bounds-layers_root-start
-slice_bounds-layers_root-start c =
-    omega (arith, c.forest_bytes.ensures, c.requires.ready.1, seal_size (ruled_row c.args.row) c.requires.ready.0)
 
 pub layers_root-top-requires : goal.layers_root-top-requires
 layers_root-top-requires c =
