@@ -13,36 +13,6 @@ use points::aim;
 use roots::root_at;
 use rows::Row;
 
-// The root that a seal of a framed message leads to under a public key, with room lent for the forest's digits.
-fn checked_root_over(
-    row: Row,
-    public: &[u8],
-    head: &[u8],
-    context: &[u8],
-    message: &[u8],
-    seal: &[u8],
-    indices: &mut [u32],
-) -> Walked
-    requires { Ready (ruled_row row) × (length public.now ≡ row.public) × (length seal.now ≡ row.seal)
-        × (length indices.old ≡ row.k) }
-    ensures { Leads row.n (checked_root (ruled_row row) (family_for (ruled_row row))
-        public.now (head.now ++ (context.now ++ message.now))
-        seal.now) result }
-{
-    let n = row.n;
-    let pointed = aim(
-        row,
-        &seal[0..n],
-        &public[0..n],
-        &public[n..],
-        head,
-        context,
-        message,
-        indices,
-    );
-    root_at(row, &public[0..n], pointed, indices, seal)
-}
-
 // The root that a seal of a framed message, in three pieces, leads to under a public key.
 pub fn checked_root(
     row: Row,
@@ -57,15 +27,18 @@ pub fn checked_root(
         public.now (head.now ++ (context.now ++ message.now))
         seal.now) result }
 {
-    let k = row.k as usize;
+    let n = row.n;
     let mut indices = [0u32; 35];
-    checked_root_over(
+    let indices = &mut indices[..row.k as usize];
+    let pointed = aim(
         row,
-        public,
+        &seal[..n],
+        &public[..n],
+        &public[n..],
         head,
         context,
         message,
-        seal,
-        &mut indices[0..k],
-    )
+        indices,
+    );
+    root_at(row, &public[..n], pointed, indices, seal)
 }

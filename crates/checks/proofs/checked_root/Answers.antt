@@ -1,4 +1,4 @@
--- `checked_root_over` reads where the message points and walks from there.
+-- `checked_root` reads where the message points and walks from there.
 -- Assumes nothing.
 use mathlib.Core.Path.{◌∙◌}
 use mathlib.Core.List.{◌++◌}
@@ -6,7 +6,7 @@ use Rattle.rows.specs.Rows.{ruled_row}
 use Rattle.calls.specs.Hashes.{family_for}
 use Rattle.points.proofs.PointLaws.{in_key}
 use Rattle.checks.proofs.CheckLaws.{checked_made, checked_calls}
-use Rattle.checks.proofs.checked_root_over.Goals as goal
+use Rattle.checks.proofs.checked_root.Goals as goal
 
 pub root_at-requires : goal.root_at-requires
 root_at-requires c =
