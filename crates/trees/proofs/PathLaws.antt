@@ -3,7 +3,7 @@
 use mathlib.Core.Path.{◌≡◌}
 use mathlib.Core.List.{◌++◌, append_assoc, append-nil}
 use Prim.Native.Nat.{ℕ, suc, ◌+◌, ◌-◌, ◌*◌, ◌/◌, ◌%◌, ◌^◌, ◌≤◌, ◌<◌}
-use native.Mathlib.Numerals.{add-one, unary_clauses}
+use native.Mathlib.Numerals.{add-one}
 use native.Mathlib.Nat.{pow-suc, le_trans, mul-le-mul_right}
 use native.Mathlib.Omega.{arith}
 use lib.Pow.{pow_pos}
@@ -30,10 +30,6 @@ module _ (w : Hashes) (tree : Tree) (count z j : ℕ) where
       rw (left, append-nil) at p
 
 -- ---- Room below 2^32 leaves
-
--- At the leaves there is the room asked for.
-pub room_start : (count i : ℕ) → i + 2 ^ count ≤ 2 ^ 32 → (i + 2 ^ (count - 0)) * 2 ^ 0 ≤ 2 ^ 32
-room_start count i h = simp unary_clauses (omega arith)
 
 -- In a turn there is room for the sibling, and again at the next height.
 pub room_turn : (count z j : ℕ) → z < count → (j + 2 ^ (count - z)) * 2 ^ z ≤ 2 ^ 32

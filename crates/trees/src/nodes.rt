@@ -12,6 +12,7 @@ use climbs::groves::{Grove, node_address};
 use leaves::leaf;
 
 // Leaf i of a forest: F of its secret value, in the room lent.
+#[tactic(auto, unfolding(rules::specs::Forest::forest_leaf))]
 fn forest_leaf_in(kit: Kit, seed: &[u8], sk: &[u8], tree: u64, pair: u32, i: u32, io: &mut [u8])
     requires { length io.old ≡ kit.n }
     ensures { io.new
@@ -27,9 +28,8 @@ fn forest_leaf(kit: Kit, seed: &[u8], sk: &[u8], tree: u64, pair: u32, i: u32) -
     ensures { take kit.n result
         ≡ (forest_leaf (hashes_of kit seed.now) tree pair sk.now i).result }
 {
-    let n = kit.n;
     let mut x = [0u8; 32];
-    forest_leaf_in(kit, seed, sk, tree, pair, i, &mut x[0..n]);
+    forest_leaf_in(kit, seed, sk, tree, pair, i, &mut x[..kit.n]);
     x
 }
 
@@ -40,21 +40,22 @@ fn leaf_of(kit: Kit, seed: &[u8], sk: &[u8], grove: Grove, i: u32) -> [u8; 32]
         ≡ ((tree_of (hashes_of kit seed.now) sk.now grove).leaf i).result }
 {
     match grove {
-        Grove::Layer(l, t) => leaf(
+        Grove::Layer(layer, tree) => leaf(
             kit,
             seed,
             sk,
             Spot {
-                layer: l,
-                tree: t,
+                layer,
+                tree,
                 pair: i,
             },
         ),
-        Grove::Forest(t, p) => forest_leaf(kit, seed, sk, t, p, i),
+        Grove::Forest(tree, pair) => forest_leaf(kit, seed, sk, tree, pair, i),
     }
 }
 
 // The node at height z and index i, by recursion on the height, ending at a leaf.
+#[tactic(auto, unfolding(rules::specs::Trees::node))]
 pub fn node(kit: Kit, seed: &[u8], sk: &[u8], grove: Grove, z: u32, i: u32) -> [u8; 32]
     requires { (kit.n ≤ 32) × ((i + 1) * 2 ^ z ≤ 2 ^ 32) }
     ensures { take kit.n result ≡ (node (hashes_of kit seed.now)

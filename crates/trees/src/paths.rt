@@ -10,6 +10,7 @@ use climbs::groves::Grove;
 use parts::put;
 
 // The index of the other child of the same node.
+#[tactic(auto, unfolding(rules::specs::Trees::sibling))]
 fn sibling(j: u32) -> u32
     ensures { result ≡ sibling j }
 {
@@ -24,12 +25,10 @@ pub fn path_in(kit: Kit, seed: &[u8], sk: &[u8], grove: Grove, count: u32, i: u3
 {
     let n = kit.n;
     let mut j = i;
-    let mut z = 0;
     let mut at = 0;
-    while z < count {
+    for z in 0..count {
         let v = node(kit, seed, sk, grove, z, sibling(j));
         at = put(out, at, &v[..n]);
-        j = j / 2;
-        z += 1;
+        j /= 2;
     }
 }

@@ -3,7 +3,7 @@
 use mathlib.Core.Path.{◌≡◌}
 use mathlib.Core.List.{◌++◌}
 use Prim.Native.Nat.{◌+◌, ◌-◌, ◌*◌, ◌^◌, ◌≤◌}
-use lib.ListN.{length, take}
+use lib.ListN.{take}
 use Rattle.rules.specs.Trees.{path}
 use Rattle.calls.specs.Hashes.{hashes_of}
 use Rattle.climbs.specs.Groves.{tree_of}
@@ -11,11 +11,8 @@ use Rattle.trees.proofs.paths.path_in.Given as goal
 
 abbrev pub invariant-loop-z : goal.invariant-loop-z
 invariant-loop-z l =
-    (l.z ≤ l.count) × (l.at ≡ l.z * l.kit.n) × (length l.out ≡ length l.initial.out)
+    (l.at ≡ l.z * l.kit.n)
     × ((l.j + 2 ^ (l.count - l.z)) * 2 ^ l.z ≤ 2 ^ 32)
     × (take l.at l.out ++ (path (hashes_of l.kit l.seed) (tree_of (hashes_of l.kit l.seed) l.sk l.grove)
     (l.count - l.z) l.z l.j).result
     ≡ (path (hashes_of l.kit l.seed) (tree_of (hashes_of l.kit l.seed) l.sk l.grove) l.count 0 l.i).result)
-
-abbrev pub decreases-loop-z : goal.decreases-loop-z
-decreases-loop-z l = l.count - l.z
