@@ -1,13 +1,11 @@
 -- The laws of the forest's part of a seal on plain values: what is written and what is left to write are the whole.
 -- Assumes nothing.
-use mathlib.Core.Path.{◌≡◌, ap, ap₂, ◌∙◌}
+use mathlib.Core.Path.{◌≡◌}
 use mathlib.Core.List.{List, ◌++◌, append_assoc, append-nil}
-use Prim.Native.Nat.{ℕ, ◌+◌, ◌-◌, ◌*◌, ◌^◌, ◌≤◌, ◌<◌}
+use Prim.Native.Nat.{ℕ, ◌+◌, ◌*◌, ◌^◌, ◌≤◌, ◌<◌}
 use native.Mathlib.Numerals.{add-one}
-use borrow.Rule.Slice.PartMut.{put_mid}
 use lib.ListN.{length, drop, get_or, drop_of_length-le}
 use lib.Seq.{drop-cons}
-use Rattle.lists.proofs.Filling.{both_written}
 use Rattle.rules.specs.Places.{Bytes, forest_secret, address}
 use Rattle.rules.specs.Calls.{PRF, Hashes}
 use Rattle.rules.specs.Trees.{path}
@@ -17,13 +15,6 @@ module _ (w : Hashes) (t p a : ℕ) (sk : Bytes) where
   -- A tree's part at leaf i of all trees.
   abbrev pub part_of : (i : ℕ) → Bytes
   part_of i = w.hash PRF (address (forest_secret t p i)) sk ++ (path w (forest_tree w t p sk) a 0 i).result
-
-  -- The secret value and the path, each in its place.
-  pub tree_written : (i n : ℕ) (out : Bytes) {at xs ys : Bytes} → length xs ≡ n → at ≡ address (forest_secret t p i)
-      → xs ≡ w.hash PRF at sk → ys ≡ (path w (forest_tree w t p sk) a 0 i).result
-      → put_mid n (length (put_mid 0 (n - 0) out xs) - n) (put_mid 0 (n - 0) out xs) ys ≡ part_of i
-  tree_written i n out {at} {xs} {ys} long e f g =
-      both_written n out xs ys long ∙ ap₂ ◌++◌ (f ∙ ap (λ x. w.hash PRF x sk) e) g
 
   -- A turn of the forest: tree j's part, and then the rest.
   forest_step : (ds : List ℕ) (j : ℕ) → j < length ds → (forest_seal w t p a sk j (drop j ds)).result

@@ -32,11 +32,10 @@ fn tree_seal_in(
         (address (forest_secret tree pair i)) sk.now ++ (path (hashes_of kit seed.now)
         (forest_tree (hashes_of kit seed.now) tree pair sk.now) a 0 i).result }
 {
-    let n = kit.n;
     let secret = address_at(6, 0, tree, pair, 0, i);
-    secret_in(kit, seed, secret, sk, &mut out[0..n]);
-    let grove = Grove::Forest(tree, pair);
-    path_in(kit, seed, sk, grove, a, i, &mut out[n..]);
+    let (value, path) = out.split_at_mut(kit.n);
+    secret_in(kit, seed, secret, sk, value);
+    path_in(kit, seed, sk, Grove::Forest(tree, pair), a, i, path);
 }
 
 // All trees' parts, one after the other: in tree j the leaf that the digit j tells.
@@ -55,17 +54,19 @@ pub fn forest_seal_in(
     ensures { out.new ≡ (forest_seal (hashes_of kit seed.now) tree pair a sk.now 0
         ds.now).result }
 {
-    let n = kit.n;
-    let leaves = 1u32 << a;
-    let step = tree_bytes(n, a);
-    let mut j: usize = 0;
-    let mut base: u32 = 0;
-    let mut at: usize = 0;
-    while j < ds.len() {
-        let e = at + step;
-        tree_seal_in(kit, seed, sk, tree, pair, a, base + ds[j], &mut out[at..e]);
-        at = e;
-        base += leaves;
-        j += 1;
+    let step = tree_bytes(kit.n, a);
+    for (j, &d) in ds.iter().enumerate() {
+        let base = (j as u32) << a;
+        let at = j * step;
+        tree_seal_in(
+            kit,
+            seed,
+            sk,
+            tree,
+            pair,
+            a,
+            base + d,
+            &mut out[at..at + step],
+        );
     }
 }

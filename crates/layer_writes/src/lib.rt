@@ -1,7 +1,7 @@
 // A layer's part of a seal (FIPS 205, algorithm 10), and the root that it leads to.
 #![tactic(auto)]
 
-ghost use Rattle.std.specs.Prelude.{◌≡◌, ◌+◌, ◌-◌, ◌*◌, ◌^◌, ◌≤◌, ◌<◌, length, take};
+ghost use Rattle.std.specs.Prelude.{◌≡◌, ◌+◌, ◌*◌, ◌^◌, ◌≤◌, length, take};
 ghost use Rattle.rules.specs.Chains.{chains};
 ghost use Rattle.rules.specs.Layers.{layer_seal, layer_root};
 ghost use Rattle.calls.specs.Hashes.{hashes_of};
@@ -14,39 +14,8 @@ use layer_walks::layer_root;
 use rows::sizes::{chain_bytes, chain_count};
 use trees::paths::path_in;
 
-// A layer's part, for the value m that leaf i of its tree seals, with room lent for the digits.
-fn layer_seal_over(
-    kit: Kit,
-    seed: &[u8],
-    sk: &[u8],
-    layer: u32,
-    tree: u64,
-    i: u32,
-    hp: u32,
-    m: &[u8],
-    ds: &mut [u32],
-    out: &mut [u8],
-)
-    requires sizes { (kit.n ≤ 32) × (length m.now ≡ kit.n) × (i + 2 ^ hp ≤ 2 ^ 32) }
-    requires lent_len { (length ds.old ≡ chains kit.n)
-        × (length out.old ≡ chains kit.n * kit.n + hp * kit.n) }
-    ensures { out.new ≡ (layer_seal (hashes_of kit seed.now) hp sk.now layer tree i
-        m.now).result }
-{
-    let n = kit.n;
-    let size = chain_bytes(n);
-    let spot = Spot {
-        layer: layer,
-        tree: tree,
-        pair: i,
-    };
-    chain_digits(m, ds);
-    shown_in(kit, seed, sk, spot, ds, &mut out[0..size]);
-    let grove = Grove::Layer(layer, tree);
-    path_in(kit, seed, sk, grove, hp, i, &mut out[size..]);
-}
-
 // A layer's part: what the chains of leaf i show for the value m, and the leaf's path.
+#[tactic(auto, unfolding(rules::specs::Layers::layer_seal))]
 pub fn layer_seal_in(
     kit: Kit,
     seed: &[u8],
@@ -63,9 +32,17 @@ pub fn layer_seal_in(
     ensures { out.new ≡ (layer_seal (hashes_of kit seed.now) hp sk.now layer tree i
         m.now).result }
 {
-    let len = chain_count(kit.n);
-    let mut ds = [0u32; 67];
-    layer_seal_over(kit, seed, sk, layer, tree, i, hp, m, &mut ds[0..len], out);
+    let mut digits = [0u32; 67];
+    let digits = &mut digits[..chain_count(kit.n)];
+    chain_digits(m, digits);
+    let spot = Spot {
+        layer,
+        tree,
+        pair: i,
+    };
+    let (shown, path) = out.split_at_mut(chain_bytes(kit.n));
+    shown_in(kit, seed, sk, spot, digits, shown);
+    path_in(kit, seed, sk, Grove::Layer(layer, tree), hp, i, path);
 }
 
 // A layer's part, and the root that it leads to, which the layer above seals.
@@ -88,6 +65,5 @@ pub fn layer_up_in(
         m.now).result }
 {
     layer_seal_in(kit, seed, sk, layer, tree, i, hp, m, out);
-    let up = layer_root(kit, seed, layer, tree, i, hp, out, m);
-    up.value
+    layer_root(kit, seed, layer, tree, i, hp, out, m).value
 }

@@ -2,17 +2,13 @@
 -- Assumes nothing.
 use mathlib.Core.Path.{◌≡◌}
 use mathlib.Core.List.{◌++◌}
-use Prim.Native.Nat.{◌-◌, ◌*◌, ◌^◌, ◌≤◌}
-use lib.ListN.{length, take, drop}
+use Prim.Native.Nat.{◌*◌}
+use lib.ListN.{take, drop}
 use Rattle.rules.specs.Forest.{forest_seal}
 use Rattle.calls.specs.Hashes.{hashes_of}
 use Rattle.forest_writes.proofs.forest_seal_in.Given as goal
 
 abbrev pub invariant-loop-j : goal.invariant-loop-j
 invariant-loop-j l =
-    (l.j ≤ length l.ds) × (l.base ≡ l.j * 2 ^ l.a) × (l.at ≡ l.j * l.step) × (length l.out ≡ length l.initial.out)
-    × (take l.at l.out ++ (forest_seal (hashes_of l.kit l.seed) l.tree l.pair l.a l.sk l.j (drop l.j l.ds)).result
-    ≡ (forest_seal (hashes_of l.kit l.seed) l.tree l.pair l.a l.sk 0 l.ds).result)
-
-abbrev pub decreases-loop-j : goal.decreases-loop-j
-decreases-loop-j l = length l.ds - l.j
+    take (l.j * l.step) l.out ++ (forest_seal (hashes_of l.kit l.seed) l.tree l.pair l.a l.sk l.j (drop l.j l.ds)).result
+    ≡ (forest_seal (hashes_of l.kit l.seed) l.tree l.pair l.a l.sk 0 l.ds).result
