@@ -34,16 +34,12 @@ pub fn layers_seal_in(
     let mut v = m;
     let mut t = tree;
     let mut k = i;
-    let mut at: usize = 0;
-    let mut j: u32 = 0;
-    while j < top {
-        let e = at + step;
-        let u = layer_up_in(kit, seed, sk, j, t, k, hp, &v[0..n], &mut out[at..e]);
-        v = u;
+    for j in 0..top {
+        let at = j as usize * step;
+        v = layer_up_in(kit, seed, sk, j, t, k, hp, &v[..n], &mut out[at..at + step]);
         k = (t % size) as u32;
-        t = t / size;
-        at = e;
-        j += 1;
+        t /= size;
     }
-    layer_seal_in(kit, seed, sk, j, t, k, hp, &v[0..n], &mut out[at..]);
+    let at = top as usize * step;
+    layer_seal_in(kit, seed, sk, top, t, k, hp, &v[..n], &mut out[at..]);
 }

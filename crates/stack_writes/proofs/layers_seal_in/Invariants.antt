@@ -3,18 +3,15 @@
 -- Assumes nothing.
 use mathlib.Core.Path.{◌≡◌}
 use mathlib.Core.List.{◌++◌}
-use Prim.Native.Nat.{◌-◌, ◌*◌, ◌≤◌, ◌<◌}
-use lib.ListN.{length, take}
+use Prim.Native.Nat.{◌-◌, ◌*◌, ◌<◌}
+use lib.ListN.{take}
 use Rattle.rules.specs.Layers.{layers_seal}
 use Rattle.calls.specs.Hashes.{hashes_of}
 use Rattle.stack_writes.proofs.layers_seal_in.Given as goal
 
 abbrev pub invariant-loop-j : goal.invariant-loop-j
 invariant-loop-j l =
-    (l.j ≤ l.top) × (l.at ≡ l.j * l.step) × (l.k < l.size) × (length l.v ≡ 32) × (length l.out ≡ length l.initial.out)
-    × (take l.at l.out ++ (layers_seal (hashes_of l.kit l.seed) l.hp l.sk (l.top - l.j) l.j l.t l.k
+    (l.k < l.size)
+    × (take (l.j * l.step) l.out ++ (layers_seal (hashes_of l.kit l.seed) l.hp l.sk (l.top - l.j) l.j l.t l.k
     (take l.n l.v)).result
     ≡ (layers_seal (hashes_of l.kit l.seed) l.hp l.sk l.top 0 l.tree l.i (take l.n l.initial.v)).result)
-
-abbrev pub decreases-loop-j : goal.decreases-loop-j
-decreases-loop-j l = l.top - l.j
