@@ -48,8 +48,7 @@ fn forest_up_in(
         indices,
         out,
     );
-    let low = forest_root(kit, seed, pointed.tree, pointed.leaf, row.a, indices, out);
-    low.value
+    forest_root(kit, seed, pointed.tree, pointed.leaf, row.a, indices, out).value
 }
 
 // The layers' parts, for the value m that layer 0 seals (lines 16 and 17).
@@ -76,6 +75,7 @@ fn layers_in(row: Row, seed: &[u8], sk: &[u8], pointed: Pointed, m: [u8; 32], ou
 }
 
 // What follows the randomizer, where the digest points (lines 11 to 17).
+#[tactic(auto, unfolding(rules::specs::Seal::written))]
 pub fn written_in(
     row: Row,
     seed: &[u8],
@@ -89,7 +89,7 @@ pub fn written_in(
     ensures { out.new ≡ (written (ruled_row row) (family_for (ruled_row row)) sk.now
         seed.now (at pointed indices.now)).result }
 {
-    let end = forest_bytes(row.n, row.a, row.k);
-    let v = forest_up_in(row, seed, sk, pointed, indices, &mut out[0..end]);
-    layers_in(row, seed, sk, pointed, v, &mut out[end..]);
+    let (forest, layers) = out.split_at_mut(forest_bytes(row.n, row.a, row.k));
+    let v = forest_up_in(row, seed, sk, pointed, indices, forest);
+    layers_in(row, seed, sk, pointed, v, layers);
 }
