@@ -13,6 +13,7 @@ use writes::written_in;
 
 // The seal of a framed message, in three pieces, with room lent for the forest's digits: the randomizer and where the
 // message points with it (lines 2 to 10), and what is written for that (lines 11 to 17).
+#[tactic(auto, unfolding(rules::specs::Seal::seal_with))]
 pub fn seal_over<'a>(
     row: Row,
     sk: &[u8],
@@ -34,18 +35,9 @@ pub fn seal_over<'a>(
         sk.now seed.now root.now
         (head.now ++ (context.now ++ message.now))).result }
 {
-    let n = row.n;
+    let (randomizer, rest) = out.split_at_mut(row.n);
     let pointed = randomized_aim(
-        row,
-        prf,
-        seed,
-        root,
-        head,
-        context,
-        message,
-        random,
-        indices,
-        &mut out[0..n],
+        row, prf, seed, root, head, context, message, random, indices, randomizer,
     );
-    written_in(row, seed, sk, pointed, indices, &mut out[n..]);
+    written_in(row, seed, sk, pointed, indices, rest);
 }

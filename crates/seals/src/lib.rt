@@ -11,6 +11,7 @@ use rows::Row;
 use seal_writes::seal_over;
 
 // The seal of a framed message, in three pieces. A secret key is secret seed, prf seed, public seed and root.
+#[tactic(auto, unfolding(rules::specs::Seal::seal_of))]
 pub fn seal_in<'a>(
     row: Row,
     secret: &'a [u8],
@@ -25,21 +26,18 @@ pub fn seal_in<'a>(
         random.now (head.now ++ (context.now ++ message.now))).result }
 {
     let n = row.n;
-    let two = n + n;
-    let three = two + n;
-    let k = row.k as usize;
     let mut indices = [0u32; 35];
     seal_over(
         row,
-        &secret[0..n],
-        &secret[n..two],
-        &secret[two..three],
-        &secret[three..],
+        &secret[..n],
+        &secret[n..2 * n],
+        &secret[2 * n..3 * n],
+        &secret[3 * n..],
         head,
         context,
         message,
         random,
-        &mut indices[0..k],
+        &mut indices[..row.k as usize],
         out,
     );
 }
