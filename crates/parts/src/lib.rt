@@ -5,14 +5,12 @@ ghost use Rattle.std.specs.Prelude.{◌+◌, ◌≤◌, length};
 ghost use Rattle.parts.specs.Put.{Put};
 
 // Writes a piece from a place on, and returns where it ends.
+#[tactic(auto, using(std::proofs::lemmas::Slice::overwrites))]
 pub fn put(out: &mut [u8], at: usize, piece: &[u8]) -> usize
     requires { at + length piece.now ≤ length out.old }
     ensures { Put out.old at piece.now out.new result }
 {
-    let mut i = 0;
-    while i < piece.len() {
-        out[at + i] = piece[i];
-        i += 1;
-    }
-    at + i
+    let end = at + piece.len();
+    out[at..end].copy_from_slice(piece);
+    end
 }
