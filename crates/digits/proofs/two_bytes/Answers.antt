@@ -6,4 +6,4 @@ use Rattle.digits.proofs.two_bytes.Goals as goal
 
 pub returns : goal.returns
 unfolding digits
-returns c = rw (div-one c.args.v)
+returns c = rw (c.to_be_bytes.ensures, div-one c.args.v)
