@@ -1,22 +1,35 @@
 -- What the code's addresses stand for in the rules.
 -- Assumes nothing.
 use Rattle.std.proofs.Math.Option.{Option, some, none}
-use Rattle.std.specs.Prelude.{cond, ℕ, zero, suc, ltb}
+use Rattle.std.specs.Prelude.{◌≡◌, cond, ℕ, zero, suc, ◌<◌, ltb, Result, Ok, Err, MatchResult}
 use Rattle.rules.specs.Places.{Bytes, Place, chain_step, chain_ends, tree_node, forest_node, forest_roots, chain_secret}
 use Rattle.rules.specs.Places.{forest_secret, words, address}
 use Rattle.addresses.specs.declared.Address.{Address}
-use Rattle.addresses.specs.declared.Made.{Made}
-use Rattle.addresses.specs.declared.Made.TheVariants.{Is, Refused}
+use Rattle.addresses.specs.declared.PlaceKind.{PlaceKind}
+use Rattle.addresses.specs.declared.PlaceKind.TheVariants.{ChainStep, ChainEnds, TreeNode, ForestNode, ForestRoots}
+use Rattle.addresses.specs.declared.PlaceKind.TheVariants.{ChainSecret, ForestSecret}
+use Rattle.addresses.specs.declared.UnknownKind.{UnknownKind}
+
+-- The number of the type of a place (section 4.2).
+abbrev pub number_of : PlaceKind → ℕ
+number_of ChainStep = 0
+number_of ChainEnds = 1
+number_of TreeNode = 2
+number_of ForestNode = 3
+number_of ForestRoots = 4
+number_of ChainSecret = 5
+number_of ForestSecret = 6
+
+-- The result is the type that has the number, or says that none has.
+abbrev pub Decodes : (number : ℕ) → Result PlaceKind UnknownKind → Type 0
+Decodes number r = MatchResult r (λ kind. number_of kind ≡ number) (λ e. (e.0 ≡ number) × (6 < number))
 
 abbrev pub bytes_of : Address → Bytes
 bytes_of a = words a.layer a.tree a.kind a.one a.two a.three
 
-abbrev pub made : Made → Option Bytes
-made (Is a) = some (bytes_of a)
-made Refused = none
-
-abbrev pub words_of : (layer tree kind one two three : ℕ) → Option Bytes
-words_of l t y a b c = some (words l t y a b c)
+abbrev pub made : Result Address UnknownKind → Option Bytes
+made (Ok a) = some (bytes_of a)
+made (Err _) = none
 
 -- The place of a type with the words that the type has; above 6 as at 6.
 abbrev pub place_at : (kind layer tree one two three : ℕ) → Place

@@ -1,11 +1,66 @@
 // Addresses (FIPS 205, sections 4.2 and 4.3), made by type and words: a word that the type lacks is cleared.
 #![tactic(auto)]
 
-ghost use Rattle.std.specs.Prelude.{◌≡◌, ◌<◌};
+ghost use Rattle.std.specs.Prelude.{◌≡◌};
 ghost use Rattle.rules.specs.Places.{address};
-ghost use Rattle.addresses.specs.Addresses.{bytes_of, made, words_of, place_at, address_at};
+ghost use Rattle.addresses.specs.Addresses.{number_of, Decodes, bytes_of, made, place_at, address_at};
 
-#[derive(Clone, Copy)]
+use std::error::Error;
+use std::fmt;
+
+// The kinds of place, each with a type of address: the numbers 0 to 6 (section 4.2).
+#[derive(Clone, Copy, Debug, PartialEq, Eq)]
+pub enum PlaceKind {
+    ChainStep,
+    ChainEnds,
+    TreeNode,
+    ForestNode,
+    ForestRoots,
+    ChainSecret,
+    ForestSecret,
+}
+
+// A number that no type has.
+#[derive(Clone, Copy, Debug, PartialEq, Eq)]
+pub struct UnknownKind(pub u32);
+
+impl fmt::Display for UnknownKind {
+    fn fmt<W: fmt::Write>(&self, f: &mut fmt::Formatter<W>) -> fmt::Result {
+        write!(f, "no type of address has number {}", self.0)
+    }
+}
+
+impl Error for UnknownKind {}
+
+impl From<PlaceKind> for u32 {
+    ghost from_gives = { λ kind number. number ≡ number_of kind };
+
+    fn from(kind: PlaceKind) -> u32 {
+        kind as u32
+    }
+}
+
+impl TryFrom<u32> for PlaceKind {
+    type Error = UnknownKind;
+
+    ghost try_from_gives = { Decodes };
+
+    fn try_from(number: u32) -> Result<PlaceKind, UnknownKind> {
+        match number {
+            0 => Ok(PlaceKind::ChainStep),
+            1 => Ok(PlaceKind::ChainEnds),
+            2 => Ok(PlaceKind::TreeNode),
+            3 => Ok(PlaceKind::ForestNode),
+            4 => Ok(PlaceKind::ForestRoots),
+            5 => Ok(PlaceKind::ChainSecret),
+            6 => Ok(PlaceKind::ForestSecret),
+            _ => Err(UnknownKind(number)),
+        }
+    }
+}
+
+// The words of an address, the type's number among them (figure 2).
+#[derive(Clone, Copy, Debug, PartialEq, Eq)]
 pub struct Address {
     pub layer: u32,
     pub tree: u64,
@@ -15,97 +70,69 @@ pub struct Address {
     pub three: u32,
 }
 
-#[derive(Clone, Copy)]
-pub enum Made {
-    Is(Address),
-    Refused,
-}
-
-fn words(layer: u32, tree: u64, kind: u32, one: u32, two: u32, three: u32) -> Made
-    ensures { made result ≡ words_of layer tree kind one two three }
+// The address of a type.
+#[tactic(auto, unfolding(rules::specs::Places::address))]
+pub fn address_at(kind: PlaceKind, layer: u32, tree: u64, one: u32, two: u32, three: u32) -> Address
+    ensures { bytes_of result ≡ address (place_at (number_of kind) layer tree one two three) }
 {
-    Made::Is(Address {
-        layer: layer,
-        tree: tree,
-        kind: kind,
-        one: one,
-        two: two,
-        three: three,
-    })
-}
-
-// The address of a type; a type above 6 is refused.
-fn address_of(kind: u32, layer: u32, tree: u64, one: u32, two: u32, three: u32) -> Made
-    ensures { made result ≡ address_at kind layer tree one two three }
-{
-    match kind {
-        0 => words(layer, tree, 0, one, two, three),
-        1 => words(layer, tree, 1, one, 0, 0),
-        2 => words(layer, tree, 2, 0, two, three),
-        3 => words(0, tree, 3, one, two, three),
-        4 => words(0, tree, 4, one, 0, 0),
-        5 => words(layer, tree, 5, one, two, 0),
-        6 => words(0, tree, 6, one, 0, three),
-        _ => Made::Refused,
-    }
-}
-
-// The address of a type that there is.
-pub fn address_at(kind: u32, layer: u32, tree: u64, one: u32, two: u32, three: u32) -> Address
-    requires { kind < 7 }
-    ensures { bytes_of result ≡ address (place_at kind layer tree one two three) }
-{
-    let blank = Address {
-        layer: 0,
-        tree: 0,
-        kind: 0,
-        one: 0,
-        two: 0,
-        three: 0,
+    let all = Address {
+        layer,
+        tree,
+        kind: u32::from(kind),
+        one,
+        two,
+        three,
     };
-    let found = address_of(kind, layer, tree, one, two, three);
-    match found {
-        Made::Is(a) => a,
-        Made::Refused => blank,
+    match kind {
+        PlaceKind::ChainStep => all,
+        PlaceKind::ChainEnds => Address {
+            two: 0,
+            three: 0,
+            ..all
+        },
+        PlaceKind::TreeNode => Address { one: 0, ..all },
+        PlaceKind::ForestNode => Address { layer: 0, ..all },
+        PlaceKind::ForestRoots => Address {
+            layer: 0,
+            two: 0,
+            three: 0,
+            ..all
+        },
+        PlaceKind::ChainSecret => Address { three: 0, ..all },
+        PlaceKind::ForestSecret => Address {
+            layer: 0,
+            two: 0,
+            ..all
+        },
     }
+}
+
+// The address of a type by its number; a number above 6 is refused.
+#[tactic(auto, using(crate::proofs::AddressLaws::numbered))]
+pub fn address_of(
+    number: u32,
+    layer: u32,
+    tree: u64,
+    one: u32,
+    two: u32,
+    three: u32,
+) -> Result<Address, UnknownKind>
+    ensures { made result ≡ address_at number layer tree one two three }
+{
+    let kind = PlaceKind::try_from(number)?;
+    Ok(address_at(kind, layer, tree, one, two, three))
 }
 
 // The 32 bytes of an address.
 pub fn address_bytes(a: Address) -> [u8; 32]
     ensures { result ≡ bytes_of a }
 {
-    [
-        (a.layer / 0x1000000 % 256) as u8,
-        (a.layer / 0x10000 % 256) as u8,
-        (a.layer / 0x100 % 256) as u8,
-        (a.layer % 256) as u8,
-        0,
-        0,
-        0,
-        0,
-        (a.tree / 0x100000000000000 % 256) as u8,
-        (a.tree / 0x1000000000000 % 256) as u8,
-        (a.tree / 0x10000000000 % 256) as u8,
-        (a.tree / 0x100000000 % 256) as u8,
-        (a.tree / 0x1000000 % 256) as u8,
-        (a.tree / 0x10000 % 256) as u8,
-        (a.tree / 0x100 % 256) as u8,
-        (a.tree % 256) as u8,
-        (a.kind / 0x1000000 % 256) as u8,
-        (a.kind / 0x10000 % 256) as u8,
-        (a.kind / 0x100 % 256) as u8,
-        (a.kind % 256) as u8,
-        (a.one / 0x1000000 % 256) as u8,
-        (a.one / 0x10000 % 256) as u8,
-        (a.one / 0x100 % 256) as u8,
-        (a.one % 256) as u8,
-        (a.two / 0x1000000 % 256) as u8,
-        (a.two / 0x10000 % 256) as u8,
-        (a.two / 0x100 % 256) as u8,
-        (a.two % 256) as u8,
-        (a.three / 0x1000000 % 256) as u8,
-        (a.three / 0x10000 % 256) as u8,
-        (a.three / 0x100 % 256) as u8,
-        (a.three % 256) as u8,
-    ]
+    let mut bytes = [0; 32];
+    bytes[..4].copy_from_slice(&a.layer.to_be_bytes());
+    bytes[8..16].copy_from_slice(&a.tree.to_be_bytes());
+    bytes[16..20].copy_from_slice(&a.kind.to_be_bytes());
+    bytes[20..24].copy_from_slice(&a.one.to_be_bytes());
+    bytes[24..28].copy_from_slice(&a.two.to_be_bytes());
+    bytes[28..].copy_from_slice(&a.three.to_be_bytes());
+    bytes
 }
