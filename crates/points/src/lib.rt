@@ -41,32 +41,7 @@ fn point(row: Row, digest: &[u8], indices: &mut [u32]) -> Pointed
     digits(&digest[0..forest], row.a, indices);
     let tree = last_bits(bits, &digest[forest..mid]);
     let leaf = last_bits(row.hp, &digest[mid..]) as u32;
-    Pointed {
-        tree: tree,
-        leaf: leaf,
-    }
-}
-
-// Where a framed message points with its randomizer under a key, with room lent for the digest.
-fn aim_over(
-    row: Row,
-    r: &[u8],
-    seed: &[u8],
-    root: &[u8],
-    head: &[u8],
-    context: &[u8],
-    message: &[u8],
-    digest: &mut [u8],
-    indices: &mut [u32],
-) -> Pointed
-    requires { Ready (ruled_row row) × (length digest.old ≡ row.m) × (length indices.old ≡ row.k) }
-    ensures { at result indices.new ≡ pointed (ruled_row row) (digest_of (ruled_row row)
-        (family_for (ruled_row row)) r.now seed.now root.now
-        (head.now ++ (context.now ++ message.now))).result }
-{
-    let kit = kit_of(row);
-    digest_in(kit, r, seed, root, head, context, message, digest);
-    point(row, digest, indices)
+    Pointed { tree, leaf }
 }
 
 // Where a framed message, in three pieces, points with its randomizer under a key.
@@ -85,17 +60,9 @@ pub fn aim(
         (family_for (ruled_row row)) r.now seed.now root.now
         (head.now ++ (context.now ++ message.now))).result }
 {
-    let m = row.m;
-    let mut digest = [0u8; 64];
-    aim_over(
-        row,
-        r,
-        seed,
-        root,
-        head,
-        context,
-        message,
-        &mut digest[0..m],
-        indices,
-    )
+    let mut digest = [0; 64];
+    let digest = &mut digest[..row.m];
+    let kit = kit_of(row);
+    digest_in(kit, r, seed, root, head, context, message, digest);
+    point(row, digest, indices)
 }

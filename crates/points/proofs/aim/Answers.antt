@@ -1,14 +1,10 @@
--- `aim_over` reads where the digest of the framed message points.
+-- `aim` reads where the digest of the framed message points.
 -- Assumes nothing.
 use mathlib.Core.List.{◌++◌}
 use Rattle.rows.specs.Rows.{ruled_row}
 use Rattle.calls.specs.Hashes.{family_for}
 use Rattle.points.proofs.PointLaws.{aimed}
-use Rattle.points.proofs.aim_over.Goals as goal
-
-pub digest_in-requires : goal.digest_in-requires
-digest_in-requires c =
-    rw c.kit_of-kit.ensures c.requires.1
+use Rattle.points.proofs.aim.Goals as goal
 
 pub returns : goal.returns
 returns c =
