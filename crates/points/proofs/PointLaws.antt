@@ -1,17 +1,17 @@
 -- What is cut out of a digest is what the rules take from it: the forest's bytes, the tree's and the leaf's lie one
 -- after the other and fill it.
 -- Assumes nothing.
-use mathlib.Core.Path.{◌≡◌, sym, ap, ap₂, ◌∙◌}
+use mathlib.Core.Path.{◌≡◌, sym, ap, ◌∙◌}
 use mathlib.Core.List.{List}
 use Prim.Native.Nat.{ℕ, zero, suc, ◌+◌, ◌-◌, ◌*◌, ◌%◌, ◌^◌, ◌≤◌, ◌<◌}
-use native.Mathlib.Nat.{sub-zero, mod-eq_of_lt, mod-lt, lt_of_lt_of_le, suc-mul, mul_comm}
+use native.Mathlib.Nat.{mod-eq_of_lt, mod-lt, lt_of_lt_of_le, suc-mul, mul_comm}
 use native.Mathlib.Omega.{arith}
-use lib.ListN.{length, take, drop}
-use lib.Seq.{length-take-le}
+use lib.ListN.{length, take, drop, length-drop}
+use lib.Seq.{take_all, drop-drop}
 use lib.Pow.{pow_pos, pow_mono}
+use Rattle.std.specs.Int.{div_ceil}
 use Rattle.lists.specs.Below.{Below}
 use Rattle.lists.proofs.Bits.{one_shifted}
-use Rattle.lists.proofs.Lent.{lent}
 use Rattle.rules.specs.Digits.{to_int, base2b}
 use Rattle.rules.specs.Places.{Bytes}
 use Rattle.rules.specs.Calls.{Family}
@@ -45,45 +45,34 @@ pub height_le : (d h h' : ℕ) → 0 < d → h ≡ d * h' → h' ≤ h
 height_le zero h h' p e = absurd (omega arith)
 height_le (suc d) h h' p e = omega (arith, suc-mul d h')
 
-module _ (r : Row) (D : Bytes) where
-  abbrev forest_bytes_long : ℕ
-  forest_bytes_long = bytes_for (r.k * r.a)
+-- The forest's bytes hold its digits.
+pub forest_bits : (k a count f : ℕ) → count ≡ k → f ≡ div_ceil (k * a) 8 → a * count ≤ 8 * f
+forest_bits k a count f e g =
+    let all : a * count ≡ k * a = ap (λ x. a * x) e ∙ mul_comm a k in
+    omega arith
 
-  abbrev mid : ℕ
-  mid = forest_bytes_long + bytes_for (r.h - r.h')
+-- The first f bytes, the next t and the rest are what the rules read.
+module _ (r : Row) (D : Bytes) (legal : Legal r) (long : length D ≡ r.m) (f t : ℕ) (ef : f ≡ div_ceil (r.k * r.a) 8)
+    (et : t ≡ div_ceil (r.h - r.h') 8) where
+  forest_long : f ≡ bytes_for (r.k * r.a)
+  forest_long = omega arith
 
-  -- The forest's bytes hold its digits.
-  pub forest_bits : (count : ℕ) → Legal r → length D ≡ r.m → count ≡ r.k
-      → r.a * count ≤ 8 * length (take (forest_bytes_long - 0) D)
-  forest_bits count legal long e =
-      let all : r.a * count ≡ r.k * r.a = ap (λ x. r.a * x) e ∙ mul_comm r.a r.k in
-      let held : length (take (forest_bytes_long - 0) D) ≡ forest_bytes_long =
-      ap (λ x. length (take x D)) (sub-zero forest_bytes_long)
-      ∙ length-take-le forest_bytes_long D (omega (arith, legal.digest_long)) in
-      omega arith
+  tree_long : t ≡ bytes_for (r.h - r.h')
+  tree_long = omega arith
 
-  pub indices_read : (count : ℕ) {is : List ℕ} → count ≡ r.k → is ≡ base2b (take (forest_bytes_long - 0) D) r.a count
-      → is ≡ (pointed r D).indices
+  leaf_rest : take (bytes_for r.h') (drop (f + t) D) ≡ drop t (drop f D)
+  leaf_rest =
+      take_all (bytes_for r.h') (drop (f + t) D)
+      (omega (arith, length-drop (f + t) D, legal.digest_long, forest_long, tree_long))
+      ∙ sym (drop-drop t f D)
+
+  pub pointed_at : {F R T L is : List ℕ} {tree leaf : ℕ} (count : ℕ) → F ≡ take f D → R ≡ drop f D → T ≡ take t R
+      → L ≡ drop t R → count ≡ r.k → is ≡ base2b F r.a count → tree ≡ last_bits (r.h - r.h') T
+      → leaf ≡ last_bits r.h' L
+      → ◌≡◌ {A = Pointed} (record { indices = is; tree = tree; leaf = leaf }) (pointed r D)
   unfolding pointed
-  indices_read count e f =
-      f ∙ ap₂ (λ x y. base2b (take x D) r.a y) (sub-zero forest_bytes_long) e
-
-  pub tree_read : {t : ℕ} → t ≡ last_bits (r.h - r.h') (take (mid - forest_bytes_long) (drop forest_bytes_long D))
-      → t ≡ (pointed r D).tree
-  unfolding pointed
-  tree_read e = e ∙ ap (last_bits (r.h - r.h')) (lent forest_bytes_long (bytes_for (r.h - r.h')) D)
-
-  pub leaf_read : {l : ℕ} → Legal r → length D ≡ r.m → l ≡ last_bits r.h' (take (length D - mid) (drop mid D))
-      → l ≡ (pointed r D).leaf
-  unfolding pointed
-  leaf_read legal long e =
-      let left : length D - mid ≡ bytes_for r.h' = omega (arith, legal.digest_long) in
-      e ∙ ap (λ x. last_bits r.h' (take x (drop mid D))) left
-
--- A place is the one pointed to where its three numbers are.
-pub pointed_at : (r : Row) (D : Bytes) {is : List ℕ} {t l : ℕ} → is ≡ (pointed r D).indices → t ≡ (pointed r D).tree
-    → l ≡ (pointed r D).leaf → ◌≡◌ {A = Pointed} (record { indices = is; tree = t; leaf = l }) (pointed r D)
-pointed_at r D e f g = rw (e, f, g)
+  pointed_at count eF eR eT eL e ei et' el =
+      rw (ei, et', el, eT, eL, eR, eF, e, ← leaf_rest, forest_long, tree_long)
 
 -- The digest of a framed message M, and where it points.
 pub aimed : (r : Row) (f : Family r.n r.m) (R seed root M : Bytes) {D : Bytes} {p : Pointed}

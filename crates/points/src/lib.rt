@@ -36,11 +36,11 @@ fn point(row: Row, digest: &[u8], indices: &mut [u32]) -> Pointed
     ensures { at result indices.new ≡ pointed (ruled_row row) digest.now }
 {
     let bits = row.h - row.hp;
-    let forest = ((row.k * row.a + 7) / 8) as usize;
-    let mid = forest + ((bits + 7) / 8) as usize;
-    digits(&digest[0..forest], row.a, indices);
-    let tree = last_bits(bits, &digest[forest..mid]);
-    let leaf = last_bits(row.hp, &digest[mid..]) as u32;
+    let (for_forest, rest) = digest.split_at((row.k * row.a).div_ceil(8) as usize);
+    let (for_tree, for_leaf) = rest.split_at(bits.div_ceil(8) as usize);
+    digits(for_forest, row.a, indices);
+    let tree = last_bits(bits, for_tree);
+    let leaf = last_bits(row.hp, for_leaf) as u32;
     Pointed { tree, leaf }
 }
 
