@@ -4,7 +4,7 @@
 use mathlib.Core.Path.{◌≡◌, sym, ap, ◌∙◌}
 use mathlib.Core.List.{List}
 use Prim.Native.Nat.{ℕ, zero, suc, ◌+◌, ◌-◌, ◌*◌, ◌%◌, ◌^◌, ◌≤◌, ◌<◌}
-use native.Mathlib.Nat.{mod-eq_of_lt, mod-lt, lt_of_lt_of_le, suc-mul, mul_comm}
+use native.Mathlib.Nat.{mod-eq_of_lt, mod-lt, lt_of_lt_of_le, suc-mul}
 use native.Mathlib.Omega.{arith}
 use lib.ListN.{length, take, drop, length-drop}
 use lib.Seq.{take_all, drop-drop}
@@ -12,6 +12,7 @@ use lib.Pow.{pow_pos, pow_mono}
 use Rattle.std.specs.Int.{div_ceil}
 use Rattle.lists.specs.Below.{Below}
 use Rattle.lists.proofs.Bits.{one_shifted}
+use Rattle.digits.proofs.Laws.{digit_modulus}
 use Rattle.rules.specs.Digits.{to_int, base2b}
 use Rattle.rules.specs.Places.{Bytes}
 use Rattle.rules.specs.Calls.{Family}
@@ -33,6 +34,9 @@ unfolding last_bits
 bits_kept bits v X h b l e =
     e ∙ sym (mod-eq_of_lt (lt_of_lt_of_le (value_fits 8 64 X b (omega arith)) (pow_mono h)))
 
+-- How `last_bits` leaves them, for the tactics.
+pub ruleset cut = (digit_modulus, bits_cut, bits_kept)
+
 -- The last 16 bits or fewer fit a word.
 pub bits_fit : (bits : ℕ) (X : Bytes) → bits ≤ 16 → last_bits bits X < 2 ^ 32
 unfolding last_bits
@@ -44,12 +48,6 @@ bits_fit bits X h = lt_of_lt_of_le (mod-lt _ (pow_pos bits)) (pow_mono {j = 32} 
 pub height_le : (d h h' : ℕ) → 0 < d → h ≡ d * h' → h' ≤ h
 height_le zero h h' p e = absurd (omega arith)
 height_le (suc d) h h' p e = omega (arith, suc-mul d h')
-
--- The forest's bytes hold its digits.
-pub forest_bits : (k a count f : ℕ) → count ≡ k → f ≡ div_ceil (k * a) 8 → a * count ≤ 8 * f
-forest_bits k a count f e g =
-    let all : a * count ≡ k * a = ap (λ x. a * x) e ∙ mul_comm a k in
-    omega arith
 
 -- The first f bytes, the next t and the rest are what the rules read.
 module _ (r : Row) (D : Bytes) (legal : Legal r) (long : length D ≡ r.m) (f t : ℕ) (ef : f ≡ div_ceil (r.k * r.a) 8)

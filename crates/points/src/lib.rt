@@ -22,6 +22,7 @@ pub struct Pointed {
 }
 
 // The last bits of at most eight bytes, as a number.
+#[tactic(auto, using(crate::proofs::PointLaws::cut))]
 fn last_bits(bits: u32, x: &[u8]) -> u64
     requires { length x.now ≤ 8 }
     ensures { result ≡ last_bits bits x.now }
@@ -31,6 +32,7 @@ fn last_bits(bits: u32, x: &[u8]) -> u64
 }
 
 // The tree and the leaf that a digest points to; the forest's digits are written to the list lent.
+#[tactic(auto, using(crate::proofs::PointLaws::height_le, crate::proofs::PointLaws::bits_fit))]
 fn point(row: Row, digest: &[u8], indices: &mut [u32]) -> Pointed
     requires { Ready (ruled_row row) × (length digest.now ≡ row.m) × (length indices.old ≡ row.k) }
     ensures { at result indices.new ≡ pointed (ruled_row row) digest.now }

@@ -1,17 +1,8 @@
 -- `point` reads the forest's digits, the tree and the leaf from the three pieces of a digest.
 -- Assumes nothing.
 use Rattle.rows.specs.Rows.{ruled_row}
-use Rattle.points.proofs.PointLaws.{bits_fit, height_le, pointed_at}
+use Rattle.points.proofs.PointLaws.{pointed_at}
 use Rattle.points.proofs.point.Goals as goal
-
-pub overflow_sub-bits : goal.overflow_sub-bits
-overflow_sub-bits c =
-    let legal = c.requires.0.legal in
-    height_le c.args.row.d _ _ legal.some_layer legal.layers
-
-pub overflow_cast-leaf : goal.overflow_cast-leaf
-overflow_cast-leaf c =
-    record { fits = rw c.last_bits-leaf.ensures (bits_fit c.args.row.hp _ c.requires.0.fit.heights) }
 
 pub returns : goal.returns
 returns c =
