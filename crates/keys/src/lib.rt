@@ -9,7 +9,6 @@ ghost use Rattle.calls.specs.Hashes.{family_for};
 
 use calls::kit_of;
 use climbs::groves::Grove;
-use parts::put;
 use rows::Row;
 use trees::nodes::node;
 
@@ -29,8 +28,9 @@ fn pair_in(a: &[u8], b: &[u8], out: &mut [u8])
     requires { length out.old ≡ length a.now + length b.now }
     ensures { out.new ≡ a.now ++ b.now }
 {
-    let m = put(out, 0, a);
-    let _e = put(out, m, b);
+    let (front, back) = out.split_at_mut(a.len());
+    front.copy_from_slice(a);
+    back.copy_from_slice(b);
 }
 
 // Both keys (line 4): public seed, root; and secret seed, prf seed, public seed, root.
@@ -43,10 +43,9 @@ pub fn keys_in(row: Row, sk: &[u8], prf: &[u8], pk: &[u8], public: &mut [u8], se
     ensures secret_after { secret.new ≡ secret_key (ruled_row row) (family_for (ruled_row row))
         sk.now prf.now pk.now }
 {
-    let n = row.n;
     let root = key_root(row, sk, pk);
-    let two = 2 * n;
-    pair_in(pk, &root[..n], public);
-    pair_in(sk, prf, &mut secret[0..two]);
-    pair_in(pk, &root[..n], &mut secret[two..]);
+    pair_in(pk, &root[..row.n], public);
+    let (seeds, end) = secret.split_at_mut(2 * row.n);
+    pair_in(sk, prf, seeds);
+    end.copy_from_slice(public);
 }
