@@ -29,6 +29,9 @@ pub chosen_some : {A : Type 0} (bytes : ℕ) (random seed : A) → (bytes ≡ 0 
 chosen_some zero random seed h = absurd (h refl)
 chosen_some (suc _) random seed h = refl
 
+-- What `mixed_in` returns, for the tactics.
+pub ruleset mixed = (mixed_none, mixed_some, chosen_none, chosen_some)
+
 -- The randomizer of a framed message M.
 pub randomizer_made : (r : Row) (f : Family r.n r.m) (prf mixed M : Bytes) {R x : Bytes} → x ≡ mixed
     → R ≡ f.prf_msg prf x M → R ≡ (randomizer_of r f prf mixed M).result

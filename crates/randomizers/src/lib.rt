@@ -17,11 +17,12 @@ use rows::Row;
 
 // The mixed-in bytes (line 2): the randomizer input, or where it is empty the secret key's public seed. They are the
 // lent memory itself.
+#[tactic(auto, using(crate::proofs::RandomizerLaws::mixed))]
 fn mixed_in<'a>(random: &'a [u8], seed: &'a [u8]) -> &'a [u8]
     ensures bytes { result.now ≡ mixed_in random.now seed.now }
     ensures place { result.ref_ptr ≡ chosen (length random.now) random.entry.ref_ptr seed.entry.ref_ptr }
 {
-    if random.len() == 0 { seed } else { random }
+    if random.is_empty() { seed } else { random }
 }
 
 // The randomizer of a framed message, from the prf seed, the randomizer input and the public seed (lines 2 and 3).

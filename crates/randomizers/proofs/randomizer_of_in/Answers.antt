@@ -7,10 +7,6 @@ use Rattle.calls.specs.Hashes.{family_for}
 use Rattle.randomizers.proofs.RandomizerLaws.{randomizer_made}
 use Rattle.randomizers.proofs.randomizer_of_in.Goals as goal
 
-pub randomizer_in-requires : goal.randomizer_in-requires
-randomizer_in-requires c =
-    rw c.kit_of-kit.ensures c.requires
-
 pub returns : goal.returns
 returns c =
     let a = c.args in
