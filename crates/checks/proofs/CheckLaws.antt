@@ -18,6 +18,7 @@ use Rattle.rows.proofs.SizeLaws.{rest_piece}
 module _ (r : Row) (f : Family r.n r.m) (public M seal : Bytes) (long : length public ≡ 2 * r.n)
     {p : Pointed} (e : p ≡ pointed r (digest_of r f (take r.n seal) (take r.n public)
     (take (length public - r.n) (drop r.n public)) M).result) where
+  -- The first of two pieces is the front.
   first_piece : take r.n public ≡ piece r.n 0 public
   first_piece = ap (λ k. take r.n (drop k public)) (sym (zero-mul r.n))
 

@@ -80,10 +80,6 @@ piece_lent n i from to x e g =
     let long : to - from ≡ n = omega arith in
     ap₂ (λ (k m : ℕ). take k (drop m x)) long e
 
-module _ (n : ℕ) (x : Bytes) where
-  pub first_piece : take (n - 0) x ≡ piece n 0 x
-  first_piece = piece_lent n 0 0 n x (omega arith) (omega arith)
-
-  -- The second of two pieces is the rest.
-  pub rest_piece : length x ≡ 2 * n → take (length x - n) (drop n x) ≡ piece n 1 x
-  rest_piece long = piece_lent n 1 n (length x) x (omega arith) (omega (arith, long))
+-- The second of two pieces is the rest.
+pub rest_piece : (n : ℕ) (x : Bytes) → length x ≡ 2 * n → take (length x - n) (drop n x) ≡ piece n 1 x
+rest_piece n x long = piece_lent n 1 n (length x) x (omega arith) (omega (arith, long))
