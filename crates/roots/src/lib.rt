@@ -28,8 +28,7 @@ pub fn root_at(row: Row, seed: &[u8], pointed: Pointed, indices: &[u32], seal: &
 {
     let n = row.n;
     let kit = kit_of(row);
-    let tree = pointed.tree;
-    let leaf = pointed.leaf;
+    let Pointed { tree, leaf } = pointed;
     let end = n + forest_bytes(n, row.a, row.k);
     let low = forest_root(kit, seed, tree, leaf, row.a, indices, &seal[n..end]);
     let size = 1u64 << row.hp;
