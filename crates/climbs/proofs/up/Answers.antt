@@ -1,17 +1,11 @@
 -- `up` is H of a node and its sibling at their parent's place: each parity of the index has its order.
 -- Assumes nothing.
-use mathlib.Core.Path.{sym}
 use Prim.Native.Nat.{◌%◌}
-use borrow.Author.Rules.{rules}
 use lib.ListN.{take}
-use lib.Seq.{length-take-le}
 use Rattle.rules.specs.Calls.{H}
 use Rattle.calls.specs.Hashes.{hashes_of}
 use Rattle.climbs.proofs.ClimbLaws.{joined_even, joined_odd, called}
 use Rattle.climbs.proofs.up.Goals as goal
-
-pub slice_bounds-own-end : goal.slice_bounds-own-end
-slice_bounds-own-end c = sym (length-take-le _ c.args.v (search rules))
 
 pub returns-then-i-eq0 : goal.returns-then-i-eq0
 returns-then-i-eq0 c =
