@@ -22,10 +22,11 @@ module _ (w : Hashes) (t p a : ℕ) (sk : Bytes) where
   unfolding forest_seal
   forest_step ds j h = rw (drop-cons ds j 0 h, add-one j, append_assoc)
 
-  pub forest_turn : (ds : List ℕ) (j i : ℕ) (done ys : Bytes) {whole : Bytes} → j < length ds
-      → i ≡ j * 2 ^ a + get_or ds j 0 → ys ≡ part_of i → done ++ (forest_seal w t p a sk j (drop j ds)).result ≡ whole
+  pub forest_turn : (ds : List ℕ) (j base : ℕ) (done ys : Bytes) {whole : Bytes} → j < length ds
+      → base ≡ j * 2 ^ a → ys ≡ part_of (base + get_or ds j 0)
+      → done ++ (forest_seal w t p a sk j (drop j ds)).result ≡ whole
       → (done ++ ys) ++ (forest_seal w t p a sk (j + 1) (drop (j + 1) ds)).result ≡ whole
-  forest_turn ds j i done ys h e f q =
+  forest_turn ds j base done ys h e f q =
       rw (append_assoc, f, e, ← forest_step ds j h) q
 
   pub forest_end : (ds : List ℕ) (j : ℕ) (out : Bytes) {whole : Bytes} → length ds ≤ j

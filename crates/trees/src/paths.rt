@@ -7,7 +7,6 @@ ghost use Rattle.climbs.specs.Groves.{tree_of};
 use crate::nodes::node;
 use calls::Kit;
 use climbs::groves::Grove;
-use parts::put;
 
 // The index of the other child of the same node.
 #[tactic(auto, unfolding(rules::specs::Trees::sibling))]
@@ -25,10 +24,10 @@ pub fn path_in(kit: Kit, seed: &[u8], sk: &[u8], grove: Grove, count: u32, i: u3
 {
     let n = kit.n;
     let mut j = i;
-    let mut at = 0;
     for z in 0..count {
         let v = node(kit, seed, sk, grove, z, sibling(j));
-        at = put(out, at, &v[..n]);
+        let at = z as usize * n;
+        out[at..at + n].copy_from_slice(&v[..n]);
         j /= 2;
     }
 }

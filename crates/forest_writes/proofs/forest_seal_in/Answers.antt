@@ -1,13 +1,13 @@
 -- `forest_seal_in` writes the trees' parts one after the other: what is written and what is left are the whole.
 -- Assumes nothing.
-use mathlib.Core.Path.{◌≡◌, refl, ap, ◌∙◌}
+use mathlib.Core.Path.{◌≡◌}
 use Prim.Native.Nat.{◌+◌, ◌*◌, ◌^◌, ◌≤◌, ◌<◌}
-use native.Mathlib.Nat.{mod-eq_of_lt, mul-le-mul_right}
+use native.Mathlib.Nat.{mod-eq_of_lt}
 use native.Mathlib.Omega.{arith}
-use lib.ListN.{length, take, get_or}
+use lib.ListN.{length, take}
 use lib.Seq.{take_all}
-use Rattle.lists.proofs.Parts.{piece_room, parts_fill, part_room}
-use Rattle.lists.proofs.Filling.{part_written, lent_length}
+use Rattle.std.proofs.lemmas.Grind.{common_steps}
+use Rattle.std.proofs.lemmas.Slice.{take-put_mid}
 use Rattle.calls.specs.Hashes.{hashes_of}
 use Rattle.forest_writes.proofs.ForestLaws.{forest_turn, forest_end}
 use Rattle.forest_writes.proofs.forest_seal_in.Goals as goal
@@ -17,27 +17,20 @@ loop-j-preserved c =
     let l = c.loop-j in
     let a = c.args in
     let step = c.tree_bytes-step.result in
-    let many = length a.ds.now in
     let at = l.j * step in
-    let all = l.auto.out ∙ parts_fill many step c.requires.wood.0.sig_long c.tree_bytes-step.ensures in
-    let room = part_room l.j many step at c.loop-j-test.true refl all in
-    let wrote = c.tree_seal_in in
-    let ys = wrote.new.out in
-    let long = wrote.auto.out ∙ lent_length at step l.out room in
-    let fits : l.j * 2 ^ a.a < 2 ^ 32 =
-    omega (arith, piece_room l.j many (2 ^ a.a) c.loop-j-test.true, c.requires.wood.0.leaves) in
-    let leaf = ap (λ x. x + get_or a.ds.now l.j 0) (mod-eq_of_lt fits) in
-    let next : (l.j + 1) * step ≡ at + step = omega arith in
-    rw (next, part_written at step l.out ys room long)
+    let ys = c.tree_seal_in.new.out in
+    let room : at ≤ length l.out = search (arith, common_steps) in
+    let next : (l.j + 1) * step ≡ at + length ys = search (arith, common_steps) in
+    let first : l.j * 2 ^ a.a < 2 ^ 32 = search (arith, common_steps) in
+    rw (take-put_mid at _ l.out ys _ next room)
     (forest_turn (hashes_of a.kit a.seed.now) a.tree a.pair a.a a.sk.now a.ds.now l.j _
-    (take at l.out) ys c.loop-j-test.true leaf wrote.ensures l.invariant)
+    (take at l.out) ys c.loop-j-test.true (mod-eq_of_lt first) c.tree_seal_in.ensures l.invariant)
 
 pub returns : goal.returns
 returns c =
     let l = c.loop-j in
     let a = c.args in
-    let step = c.tree_bytes-step.result in
-    let all = l.auto.out ∙ parts_fill (length a.ds.now) step c.requires.wood.0.sig_long c.tree_bytes-step.ensures in
-    let full : length l.out ≤ l.j * step = omega (arith, all, mul-le-mul_right step c.loop-j-test.false) in
+    let at = l.j * c.tree_bytes-step.result in
+    let full : length l.out ≤ at = search (arith, common_steps) in
     forest_end (hashes_of a.kit a.seed.now) a.tree a.pair a.a a.sk.now a.ds.now l.j l.out
-    c.loop-j-test.false (rw (take_all (l.j * step) l.out full) at l.invariant)
+    c.loop-j-test.false (rw (take_all at l.out full) at l.invariant)

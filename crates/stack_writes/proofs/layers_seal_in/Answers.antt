@@ -1,13 +1,14 @@
 -- `layers_seal_in` writes the layers' parts one after the other, each for the root that the one below leads to: what is
 -- written and what is left to write are the whole.
 -- Assumes nothing.
-use mathlib.Core.Path.{◌≡◌, refl, ◌∙◌}
-use Prim.Native.Nat.{◌+◌, ◌-◌, ◌*◌, ◌<◌}
+use mathlib.Core.Path.{◌≡◌, ◌∙◌}
+use Prim.Native.Nat.{◌+◌, ◌-◌, ◌*◌, ◌≤◌, ◌<◌}
 use native.Mathlib.Nat.{mod-lt}
 use native.Mathlib.Omega.{arith}
-use lib.ListN.{take}
-use Rattle.lists.proofs.Parts.{parts_fill, part_room}
-use Rattle.lists.proofs.Filling.{part_written, lent_length, rest_written}
+use lib.ListN.{length, take}
+use Rattle.std.proofs.lemmas.Grind.{common_steps}
+use Rattle.std.proofs.lemmas.Slice.{take-put_mid}
+use Rattle.lists.proofs.Filling.{rest_written}
 use Rattle.calls.specs.Hashes.{hashes_of}
 use Rattle.stack_writes.proofs.StackLaws.{layers_turn, layers_end}
 use Rattle.stack_writes.proofs.layers_seal_in.Goals as goal
@@ -18,15 +19,13 @@ loop-j-preserved c =
     let l = c.loop-j in
     let step = c.layer_bytes-step.result in
     let at = l.j * step in
-    let all = l.auto.out ∙ parts_fill a.d step c.requires.0.sig_long c.layer_bytes-step.ensures in
-    let room = part_room l.j a.d step at (omega arith) refl all in
     let up = c.layer_up_in-v in
     let ys = up.new.out in
-    let long = up.auto.out ∙ lent_length at step l.out room in
-    let next : (l.j + 1) * step ≡ at + step = omega arith in
+    let room : at ≤ length l.out = search (arith, common_steps) in
+    let next : (l.j + 1) * step ≡ at + length ys = search (arith, common_steps) in
     let leaves : 0 < a.size = omega (arith, l.invariant.0) in (
       mod-lt l.t leaves,
-      rw (next, part_written at step l.out ys room long)
+      rw (take-put_mid at _ l.out ys _ next room)
           (layers_turn (hashes_of a.kit a.seed.now) a.hp a.sk.now (a.d - 1) l.j l.t l.k a.size
           (take a.kit.n l.v) (take at l.out) ys (take a.kit.n up.result) c.loop-j-test.true
           c.requires.0.leaves up.ensures.out_after up.ensures.result_value l.invariant.1),

@@ -1,11 +1,12 @@
 -- `path_in` writes the path of the rules: what is written and the path left from each height on are the whole path.
 -- Assumes nothing.
-use Prim.Native.Nat.{◌≤◌}
-use native.Mathlib.Nat.{mul-le-mul_right}
+use mathlib.Core.Path.{◌≡◌, ◌∙◌}
+use Prim.Native.Nat.{◌+◌, ◌*◌, ◌≤◌}
 use native.Mathlib.Omega.{arith}
-use borrow.Author.Rules.{rules}
 use lib.ListN.{length, take}
-use lib.Seq.{length-take-le, take_all}
+use lib.Seq.{take_all}
+use Rattle.std.proofs.lemmas.Grind.{common_steps}
+use Rattle.std.proofs.lemmas.Slice.{take-put_mid}
 use Rattle.calls.specs.Hashes.{hashes_of}
 use Rattle.climbs.specs.Groves.{tree_of}
 use Rattle.trees.proofs.PathLaws.{path_turn, path_end, room_turn}
@@ -14,20 +15,21 @@ use Rattle.trees.proofs.paths.path_in.Goals as goal
 pub node-v-requires : goal.node-v-requires
 node-v-requires c =
     let l = c.loop-z in
-    (c.requires.0, rw c.sibling.ensures (room_turn c.args.count l.z l.j c.loop-z-test.true l.invariant.1).0)
+    (c.requires.0, rw c.sibling.ensures (room_turn c.args.count l.z l.j c.loop-z-test.true l.invariant.0).0)
 
 pub loop-z-preserved : goal.loop-z-preserved
 loop-z-preserved c =
-    let put = c.put-at in
     let l = c.loop-z in
     let a = c.args in
     let w = hashes_of a.kit a.seed.now in
-    let long = length-take-le a.kit.n c.node-v.result (search rules) in (
-      omega (arith, put.ensures.ends, long),
-      (room_turn a.count l.z l.j c.loop-z-test.true l.invariant.1).1,
-      rw put.ensures.front
-          (path_turn w (tree_of w a.sk.now a.grove) a.count l.z l.j (take l.at l.out)
-          c.loop-z-test.true c.sibling.ensures c.node-v.ensures l.invariant.2),
+    let at = l.z * a.kit.n in
+    let ys = c.copy_from_slice.new.self in
+    let room : at ≤ length l.out = search (arith, common_steps) in
+    let next : (l.z + 1) * a.kit.n ≡ at + length ys = search (arith, common_steps) in (
+      (room_turn a.count l.z l.j c.loop-z-test.true l.invariant.0).1,
+      rw (take-put_mid at _ l.out ys _ next room)
+          (path_turn w (tree_of w a.sk.now a.grove) a.count l.z l.j (take at l.out)
+          c.loop-z-test.true c.sibling.ensures (c.copy_from_slice.ensures.after ∙ c.node-v.ensures) l.invariant.1),
     )
 
 pub returns : goal.returns
@@ -35,6 +37,7 @@ returns c =
     let l = c.loop-z in
     let a = c.args in
     let w = hashes_of a.kit a.seed.now in
-    let full : length l.out ≤ l.at = omega (arith, mul-le-mul_right a.kit.n c.loop-z-test.false) in
+    let at = l.z * a.kit.n in
+    let full : length l.out ≤ at = search (arith, common_steps) in
     path_end w (tree_of w a.sk.now a.grove) a.count l.z l.j l.out c.loop-z-test.false
-    (rw (take_all l.at l.out full) at l.invariant.2)
+    (rw (take_all at l.out full) at l.invariant.1)

@@ -11,8 +11,7 @@ use Rattle.trees.proofs.paths.path_in.Given as goal
 
 abbrev pub invariant-loop-z : goal.invariant-loop-z
 invariant-loop-z l =
-    (l.at ≡ l.z * l.kit.n)
-    × ((l.j + 2 ^ (l.count - l.z)) * 2 ^ l.z ≤ 2 ^ 32)
-    × (take l.at l.out ++ (path (hashes_of l.kit l.seed) (tree_of (hashes_of l.kit l.seed) l.sk l.grove)
+    ((l.j + 2 ^ (l.count - l.z)) * 2 ^ l.z ≤ 2 ^ 32)
+    × (take (l.z * l.n) l.out ++ (path (hashes_of l.kit l.seed) (tree_of (hashes_of l.kit l.seed) l.sk l.grove)
     (l.count - l.z) l.z l.j).result
     ≡ (path (hashes_of l.kit l.seed) (tree_of (hashes_of l.kit l.seed) l.sk l.grove) l.count 0 l.i).result)
