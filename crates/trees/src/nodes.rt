@@ -11,25 +11,17 @@ use chains::Spot;
 use climbs::groves::{Grove, node_address};
 use leaves::leaf;
 
-// Leaf i of a forest: F of its secret value, in the room lent.
+// Leaf i of a forest: F of its secret value.
 #[tactic(auto, unfolding(rules::specs::Forest::forest_leaf))]
-fn forest_leaf_in(kit: Kit, seed: &[u8], sk: &[u8], tree: u64, pair: u32, i: u32, io: &mut [u8])
-    requires { length io.old ≡ kit.n }
-    ensures { io.new
-        ≡ (forest_leaf (hashes_of kit seed.now) tree pair sk.now i).result }
-{
-    secret_in(kit, seed, address_at(6, 0, tree, pair, 0, i), sk, io);
-    f_in(kit, seed, address_at(3, 0, tree, pair, 0, i), io);
-}
-
-// Leaf i of a forest.
 fn forest_leaf(kit: Kit, seed: &[u8], sk: &[u8], tree: u64, pair: u32, i: u32) -> [u8; 32]
     requires { kit.n ≤ 32 }
     ensures { take kit.n result
         ≡ (forest_leaf (hashes_of kit seed.now) tree pair sk.now i).result }
 {
     let mut x = [0u8; 32];
-    forest_leaf_in(kit, seed, sk, tree, pair, i, &mut x[..kit.n]);
+    let io = &mut x[..kit.n];
+    secret_in(kit, seed, address_at(6, 0, tree, pair, 0, i), sk, io);
+    f_in(kit, seed, address_at(3, 0, tree, pair, 0, i), io);
     x
 }
 
