@@ -10,5 +10,6 @@ use Rattle.forest_writes.proofs.forest_seal_in.Given as goal
 
 abbrev pub invariant-loop-j : goal.invariant-loop-j
 invariant-loop-j l =
-    take (l.j * l.step) l.out ++ (forest_seal (hashes_of l.kit l.seed) l.tree l.pair l.a l.sk l.j (drop l.j l.ds)).result
+    take (l.j * l.step) l.out
+    ++ (forest_seal (hashes_of l.kit l.seed) l.tree l.pair l.a l.sk l.j (drop l.j l.ds)).result
     ≡ (forest_seal (hashes_of l.kit l.seed) l.tree l.pair l.a l.sk 0 l.ds).result

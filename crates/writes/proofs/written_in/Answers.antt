@@ -10,4 +10,5 @@ pub layers_in-requires : goal.layers_in-requires
 layers_in-requires c =
     let ready = c.requires.ready in
     let size = seal_size (ruled_row c.args.row) ready.0 in
-    (ready.0, omega (arith, size, c.split_at_mut-forest.ensures.back_len, c.forest_bytes.ensures), c.requires.aim_fits.2)
+    let back = c.split_at_mut-forest.ensures.back_len in
+    (ready.0, omega (arith, size, back, c.forest_bytes.ensures), c.requires.aim_fits.2)
