@@ -1,5 +1,5 @@
 // The leaves and nodes of a key's own hash trees (FIPS 205, algorithms 9, 14 and 15).
-ghost use Rattle.std.specs.Prelude.{◌≡◌, ◌+◌, ◌*◌, ◌^◌, ◌≤◌, length, take};
+ghost use Rattle.std.specs.Prelude.{◌≡◌, ◌+◌, ◌*◌, ◌^◌, ◌≤◌, take};
 ghost use Rattle.rules.specs.Forest.{forest_leaf};
 ghost use Rattle.rules.specs.Trees.{node};
 ghost use Rattle.calls.specs.Hashes.{hashes_of};
