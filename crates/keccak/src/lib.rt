@@ -1,16 +1,18 @@
 // θ, ρ and π, the step mappings of KECCAK-f[1600] that mix columns, rotate lanes and move them (FIPS 202, 3.2.1 to
-// 3.2.3), plainly: a loop over the 25 lanes, or a list of them.
+// 3.2.3), plainly: a function of the place for each of the 25 lanes, or a list of them.
 #![tactic(auto)]
 
 ghost use Rattle.std.specs.Prelude.{◌≡◌, ◌<◌};
 ghost use Rattle.keccak.specs.Keccak.{each, C, D, rotated, θ, ρ, π};
+
+use std::array;
 
 // The offsets of ρ: that of the lane at column x and row y is at 5y + x.
 const OFFSETS: [u32; 25] = [
     0, 1, 62, 28, 27, 36, 44, 6, 55, 20, 3, 10, 43, 25, 39, 41, 45, 15, 21, 8, 18, 2, 61, 56, 14,
 ];
 
-// A lane rotated left by n; at n = 0 both shifts are by 0.
+// A lane rotated left by n, by a pair of shifts as a rule of the project has it; at n = 0 both are by 0.
 fn rotate(a: u64, n: u32) -> u64
     requires { n < 64 }
     ensures { result ≡ rotated n a }
@@ -48,27 +50,13 @@ pub fn theta(a: &[u64; 25]) -> [u64; 25]
     ensures { result ≡ θ a.now }
 {
     let d = effects(a);
-    let mut b = [0u64; 25];
-    let mut i: usize = 0;
-    while i < 25 {
-        b[i] = a[i] ^ d[i % 5];
-        i += 1;
-    }
-    b
+    array::from_fn(|i| a[i] ^ d[i % 5])
 }
 
 pub fn rho(a: &[u64; 25]) -> [u64; 25]
     ensures { result ≡ ρ a.now }
 {
-    // A copy, since a constant indexed in a loop is laid on the stack anew at each turn.
-    let offsets = OFFSETS;
-    let mut b = [0u64; 25];
-    let mut i: usize = 0;
-    while i < 25 {
-        b[i] = rotate(a[i], offsets[i]);
-        i += 1;
-    }
-    b
+    array::from_fn(|i| rotate(a[i], OFFSETS[i]))
 }
 
 // Lane (x, y) comes from (x + 3y, x).

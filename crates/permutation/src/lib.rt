@@ -34,24 +34,23 @@ const CONSTANTS: [u64; 24] = [
     0x8000000080008008,
 ];
 
-// Row by row: y is the place of the row's first lane.
+// Row by row: i is the place of the row's first lane.
 fn chi(a: &[u64; 25]) -> [u64; 25]
     ensures { result ≡ χ a.now }
 {
     let mut b = [0u64; 25];
-    let mut y: usize = 0;
-    while y < 25 {
-        let c0 = a[y];
-        let c1 = a[y + 1];
-        let c2 = a[y + 2];
-        let c3 = a[y + 3];
-        let c4 = a[y + 4];
-        b[y] = c0 ^ (!c1 & c2);
-        b[y + 1] = c1 ^ (!c2 & c3);
-        b[y + 2] = c2 ^ (!c3 & c4);
-        b[y + 3] = c3 ^ (!c4 & c0);
-        b[y + 4] = c4 ^ (!c0 & c1);
-        y += 5;
+    for y in 0..5 {
+        let i = 5 * y;
+        let c0 = a[i];
+        let c1 = a[i + 1];
+        let c2 = a[i + 2];
+        let c3 = a[i + 3];
+        let c4 = a[i + 4];
+        b[i] = c0 ^ (!c1 & c2);
+        b[i + 1] = c1 ^ (!c2 & c3);
+        b[i + 2] = c2 ^ (!c3 & c4);
+        b[i + 3] = c3 ^ (!c4 & c0);
+        b[i + 4] = c4 ^ (!c0 & c1);
     }
     b
 }
@@ -65,17 +64,13 @@ fn round(s: &mut [u64; 25], c: u64)
     let d = pi(&b);
     let e = chi(&d);
     *s = e;
-    s[0] = s[0] ^ c;
+    s[0] ^= c;
 }
 
 pub fn permute(s: &mut [u64; 25])
     ensures { s.new ≡ keccak_f s.old }
 {
-    // A copy, since a constant indexed in a loop is laid on the stack anew at each turn.
-    let constants = CONSTANTS;
-    let mut i: usize = 0;
-    while i < 24 {
-        round(s, constants[i]);
-        i += 1;
+    for c in CONSTANTS {
+        round(s, c);
     }
 }

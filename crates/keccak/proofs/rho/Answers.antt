@@ -1,37 +1,20 @@
--- `rho` is ρ, lane by lane, since its table of offsets is what the standard's walk gives.
+-- `rho` is ρ: each lane is the definition's, since the table of offsets is what the standard's walk gives.
 -- Assumes nothing.
-use mathlib.Core.Path.{refl, sym, ap, ap₂, ◌∙◌, subst⁻¹}
-use Prim.Native.Nat.{ℕ, ◌+◌, ◌<◌}
-use mathlib.Core.List.{List}
-use native.Mathlib.Omega.{arith}
+use mathlib.Core.Path.{◌≡◌, sym, ap₂, ◌∙◌}
 use lib.ListN.{get_or}
-use Rattle.lists.specs.Below.{Below}
+use Rattle.std.proofs.Common.{rules}
 use Rattle.keccak.specs.Constants.{walk, offsets}
-use Rattle.keccak.specs.Keccak.{rotated, ρ}
-use Rattle.keccak.proofs.Each.{filled_start, filled_next, filled_end}
-use Rattle.keccak.proofs.Rounds.{lane_place, offsets_below}
-use Rattle.keccak.proofs.rho.Invariants.{turned}
+use Rattle.keccak.specs.Keccak.{lane, rotated, ρ}
+use Rattle.keccak.proofs.Each.{state_made}
+use Rattle.keccak.proofs.Rounds.{lane_place}
 use Rattle.keccak.proofs.rho.Goals as goal
 
--- The table is what the standard's walk gives, by computation.
-pub loop-i-init : goal.loop-i-init
-unfolding offsets walk
-loop-i-init c = (refl, filled_start (turned c.args.a.now))
-
-pub rotate-requires : goal.rotate-requires
-rotate-requires c =
-    let l = c.loop-i in
-    subst⁻¹ (Below 64) l.invariant.0 offsets_below l.i
-
-pub loop-i-preserved : goal.loop-i-preserved
-loop-i-preserved c =
-    let l = c.loop-i in
-    let s = c.args.a.now in
-    let h : l.i < 25 = omega arith in
-    let o = ap (λ (t : List ℕ). get_or t l.i 0) l.invariant.0 in
-    let e = ap₂ rotated (o ∙ sym (lane_place offsets l.i h)) (sym (lane_place s l.i h)) in
-    (l.invariant.0, filled_next (turned s) l.b l.i _ (l.i + 1) l.invariant.1 h (c.rotate.ensures ∙ e) refl)
-
 pub returns : goal.returns
-unfolding ρ
-returns c = filled_end (turned _) _ _ c.loop-i.invariant.1 c.loop-i-test.false
+unfolding ρ offsets walk
+returns c =
+    let a = c.args.a.now in
+    state_made _ _ (λ x y. rotated (lane offsets x y) (lane a x y))
+    (λ i r q h k.
+    let e : r ≡ rotated (get_or offsets i 0) (get_or a i 0) = search rules in
+    (e ∙ ap₂ rotated (sym (lane_place offsets i h)) (sym (lane_place a i h)), search rules))
+    _ c.from_fn.ensures.items

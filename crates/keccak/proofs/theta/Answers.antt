@@ -1,31 +1,24 @@
--- `theta` is θ, lane by lane: each store is the next lane of the definition.
+-- `theta` is θ: each lane is the definition's, since a place is a column and a row.
 -- Assumes nothing.
-use mathlib.Core.Path.{refl, sym, ap, ap₂, ◌∙◌}
-use Prim.Native.Nat.{ℕ, ◌+◌, ◌%◌, ◌<◌}
+use mathlib.Core.Path.{◌≡◌, sym, ap, ap₂, ◌∙◌}
+use Prim.Native.Nat.{ℕ, ◌%◌}
 use mathlib.Core.List.{List}
 use native.Mathlib.Omega.{arith}
-use lib.ListN.{get_or}
 use lib.Bits.{bit_xor}
-use Rattle.keccak.specs.Keccak.{D, θ}
-use Rattle.keccak.proofs.Each.{filled_start, filled_next, filled_end, get_or-each}
+use lib.ListN.{get_or}
+use Rattle.std.proofs.Common.{rules}
+use Rattle.keccak.specs.Keccak.{lane, D, θ}
+use Rattle.keccak.proofs.Each.{get_or-each, state_made}
 use Rattle.keccak.proofs.Rounds.{lane_place}
-use Rattle.keccak.proofs.theta.Invariants.{added}
 use Rattle.keccak.proofs.theta.Goals as goal
-
-pub loop-i-init : goal.loop-i-init
-loop-i-init c = filled_start (added c.args.a.now)
-
-pub loop-i-preserved : goal.loop-i-preserved
-loop-i-preserved c =
-    let l = c.loop-i in
-    let s = c.args.a.now in
-    let h : l.i < 25 = omega arith in
-    let d = c.effects-d.ensures in
-    filled_next (added s) l.b l.i _ (l.i + 1) l.invariant h
-    (sym (ap₂ bit_xor (lane_place s l.i h)
-    (sym (ap (λ (t : List ℕ). get_or t (l.i % 5) 0) d ∙ get_or-each (D s) 5 (l.i % 5) (omega arith)))))
-    refl
 
 pub returns : goal.returns
 unfolding θ
-returns c = filled_end (added _) _ _ c.loop-i.invariant c.loop-i-test.false
+returns c =
+    let a = c.args.a.now in
+    state_made _ _ (λ x y. bit_xor (lane a x y) (D a x))
+    (λ i r q h k.
+    let d = ap (λ (t : List ℕ). get_or t (i % 5) 0) c.effects-d.ensures ∙ get_or-each (D a) 5 (i % 5) (omega arith) in
+    let e : r ≡ bit_xor (get_or a i 0) (get_or c.effects-d.result (i % 5) 0) = search rules in
+    (e ∙ ap₂ bit_xor (sym (lane_place a i h)) d, search rules))
+    _ c.from_fn.ensures.items
