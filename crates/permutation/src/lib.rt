@@ -34,7 +34,8 @@ const CONSTANTS: [u64; 24] = [
     0x8000000080008008,
 ];
 
-// Row by row: i is the place of the row's first lane.
+// Row by row, since a function of the place takes remainders by 5 that cost more than all else; i is the place of the
+// row's first lane.
 fn chi(a: &[u64; 25]) -> [u64; 25]
     ensures { result ≡ χ a.now }
 {

@@ -19,7 +19,8 @@ pub loop-c-preserved : goal.loop-c-preserved
 unfolding each constant constant_bits rc register
 loop-c-preserved c =
     let l = c.loop-c in
-    c.round.ensures ∙ ap₂ round (get_or-each constant 24 l.c-index (omega arith)) l.invariant ∙ sym (rounds_next l.c-index c.args.s.now)
+    c.round.ensures ∙ ap₂ round (get_or-each constant 24 l.c-index (omega arith)) l.invariant
+    ∙ sym (rounds_next l.c-index c.args.s.now)
 
 pub returns : goal.returns
 unfolding keccak_f
