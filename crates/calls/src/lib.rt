@@ -9,6 +9,7 @@ ghost use Rattle.calls.specs.Hashes.{kit_for, family_of};
 
 use addresses::{Address, address_bytes};
 use rows::Row;
+use shake::Shake256;
 
 // The hash functions of a set, for values of n bytes and digests of m bytes.
 #[derive(Clone, Copy)]
@@ -30,11 +31,11 @@ pub fn f_in(kit: Kit, seed: &[u8], adrs: Address, io: &mut [u8])
     ensures { io.new
         ≡ (family_of kit).hash Function.F seed.now (bytes_of adrs) io.old }
 {
-    let b = address_bytes(adrs);
-    let mut s = [0u64; 25];
-    let p = shake::absorb_two(&mut s, 0, seed, &b);
-    let q = shake::absorb(&mut s, p, io);
-    shake::end(&mut s, q, io);
+    let mut s = Shake256::new();
+    s.absorb(seed);
+    s.absorb(&address_bytes(adrs));
+    s.absorb(io);
+    s.end(io);
 }
 
 // A call with one input.
@@ -42,11 +43,11 @@ fn call(seed: &[u8], adrs: Address, input: &[u8], out: &mut [u8])
     ensures { out.new
         ≡ shake256 (seed.now ++ (bytes_of adrs ++ input.now)) (length out.old) }
 {
-    let b = address_bytes(adrs);
-    let mut s = [0u64; 25];
-    let p = shake::absorb_two(&mut s, 0, seed, &b);
-    let q = shake::absorb(&mut s, p, input);
-    shake::end(&mut s, q, out);
+    let mut s = Shake256::new();
+    s.absorb(seed);
+    s.absorb(&address_bytes(adrs));
+    s.absorb(input);
+    s.end(out);
 }
 
 // A secret value.
@@ -64,7 +65,7 @@ fn call_value(n: usize, seed: &[u8], adrs: Address, input: &[u8]) -> [u8; 32]
     ensures { take n result ≡ shake256 (seed.now ++ (bytes_of adrs ++ input.now)) n }
 {
     let mut out = [0u8; 32];
-    call(seed, adrs, input, &mut out[0..n]);
+    call(seed, adrs, input, &mut out[..n]);
     out
 }
 
@@ -92,12 +93,12 @@ pub fn h(kit: Kit, seed: &[u8], adrs: Address, left: &[u8], right: &[u8]) -> [u8
     ensures { take kit.n result
         ≡ (family_of kit).hash Function.H seed.now (bytes_of adrs) (left.now ++ right.now) }
 {
-    let n = kit.n;
-    let b = address_bytes(adrs);
-    let mut s = [0u64; 25];
-    let p = shake::absorb_two(&mut s, 0, seed, &b);
-    let q = shake::absorb_two(&mut s, p, left, right);
+    let mut s = Shake256::new();
+    s.absorb(seed);
+    s.absorb(&address_bytes(adrs));
+    s.absorb(left);
+    s.absorb(right);
     let mut out = [0u8; 32];
-    shake::end(&mut s, q, &mut out[0..n]);
+    s.end(&mut out[..kit.n]);
     out
 }

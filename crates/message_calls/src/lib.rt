@@ -6,6 +6,7 @@ ghost use Rattle.std.specs.Prelude.{◌≡◌, ◌++◌, length};
 ghost use Rattle.calls.specs.Hashes.{family_of};
 
 use calls::Kit;
+use shake::Shake256;
 
 // The randomizer R.
 pub fn randomizer_in(
@@ -21,11 +22,13 @@ pub fn randomizer_in(
     ensures { out.new ≡ (family_of kit).prf_msg prf.now mixed.now
         (head.now ++ (context.now ++ message.now)) }
 {
-    let mut s = [0u64; 25];
-    let p = shake::absorb_two(&mut s, 0, prf, mixed);
-    let q = shake::absorb(&mut s, p, head);
-    let t = shake::absorb_two(&mut s, q, context, message);
-    shake::end(&mut s, t, out);
+    let mut s = Shake256::new();
+    s.absorb(prf);
+    s.absorb(mixed);
+    s.absorb(head);
+    s.absorb(context);
+    s.absorb(message);
+    s.end(out);
 }
 
 // The digest of the framed message.
@@ -43,9 +46,12 @@ pub fn digest_in(
     ensures { out.new ≡ (family_of kit).h_msg r.now seed.now root.now
         (head.now ++ (context.now ++ message.now)) }
 {
-    let mut s = [0u64; 25];
-    let p = shake::absorb_two(&mut s, 0, r, seed);
-    let q = shake::absorb_two(&mut s, p, root, head);
-    let t = shake::absorb_two(&mut s, q, context, message);
-    shake::end(&mut s, t, out);
+    let mut s = Shake256::new();
+    s.absorb(r);
+    s.absorb(seed);
+    s.absorb(root);
+    s.absorb(head);
+    s.absorb(context);
+    s.absorb(message);
+    s.end(out);
 }

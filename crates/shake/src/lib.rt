@@ -1,62 +1,70 @@
-// SHAKE256 (FIPS 202) by pieces, over a state that the caller lends. Begin with 25 zero lanes and the place 0; absorb
-// pieces, finish once, squeeze pieces. Each function returns the place that the next one takes. Callers go by these
-// contracts and the laws of proofs/Laws.antt.
+// SHAKE256 (FIPS 202) by pieces: `new`, any pieces absorbed, and then `end`, or `finish` once and any pieces squeezed.
+// Callers go by these contracts and the laws of proofs/Laws.antt.
 #![tactic(auto)]
 
-ghost use Rattle.std.specs.Prelude.{◌≡◌, ◌++◌, length};
+ghost use Rattle.std.specs.Prelude.{◌≡◌, length};
 ghost use Rattle.shake.specs.Shake.{rate256, shake256};
-ghost use Rattle.sponge.specs.Stream.{sponge, feed, finish as finished, draw, drawn};
+ghost use Rattle.sponge.specs.Stream.{empty, feed, finish as finished, draw, drawn};
+
+use absorbing::Sponge;
 
 // The rate in bytes: 1600 - 512 bits.
 const RATE: usize = 136;
 
-// Absorbs the bytes m.
-pub fn absorb(s: &mut [u64; 25], at: usize, m: &[u8]) -> usize
-    ensures { sponge s.new result ≡ feed rate256 (sponge s.old at) m.now }
-{
-    absorbing::absorb(s, RATE, at, m)
+// The sponge at SHAKE256's rate. Any lanes and any place are one.
+#[derive(Drop)]
+pub struct Shake256 {
+    pub sponge: Sponge<RATE>,
 }
 
-// Ends the message.
-pub fn finish(s: &mut [u64; 25], at: usize) -> usize
-    ensures { sponge s.new result ≡ finished rate256 (sponge s.old at) }
-{
-    absorbing::finish(s, RATE, at)
-}
+impl Shake256 {
+    ghost use Rattle.shake.specs.State.{state};
 
-// Squeezes the next bytes into the whole of out.
-pub fn squeeze(s: &mut [u64; 25], at: usize, out: &mut [u8]) -> usize
-    ensures state_after { sponge s.new result
-        ≡ drawn rate256 (length out.old) (sponge s.old at) }
-    ensures out_after { out.new ≡ draw rate256 (length out.old) (sponge s.old at) }
-{
-    squeezing::squeeze(s, RATE, at, out)
-}
+    // Before the first byte.
+    pub fn new() -> Self
+        ensures { state result ≡ empty }
+    {
+        Shake256 {
+            sponge: Sponge::new(),
+        }
+    }
 
-// Two pieces, one after the other.
-pub fn absorb_two(s: &mut [u64; 25], at: usize, a: &[u8], b: &[u8]) -> usize
-    ensures { sponge s.new result
-        ≡ feed rate256 (sponge s.old at) (a.now ++ b.now) }
-{
-    let p = absorb(s, at, a);
-    absorb(s, p, b)
-}
+    // Absorbs the bytes m.
+    pub fn absorb(&mut self, m: &[u8])
+        ensures { state self.new ≡ feed rate256 (state self.old) m.now }
+    {
+        self.sponge.absorb(m);
+    }
 
-// The message ends, and the whole of out is filled.
-pub fn end(s: &mut [u64; 25], at: usize, out: &mut [u8])
-    ensures { out.new
-        ≡ draw rate256 (length out.old) (finished rate256 (sponge s.old at)) }
-{
-    let p = finish(s, at);
-    let _q = squeeze(s, p, out);
+    // Ends the message.
+    pub fn finish(&mut self)
+        ensures { state self.new ≡ finished rate256 (state self.old) }
+    {
+        self.sponge.finish();
+    }
+
+    // Squeezes the next bytes into the whole of out.
+    pub fn squeeze(&mut self, out: &mut [u8])
+        ensures state_after { state self.new ≡ drawn rate256 (length out.old) (state self.old) }
+        ensures out_after { out.new ≡ draw rate256 (length out.old) (state self.old) }
+    {
+        squeezing::squeeze(&mut self.sponge, out);
+    }
+
+    // The message ends, and the whole of out is filled.
+    pub fn end(&mut self, out: &mut [u8])
+        ensures { out.new ≡ draw rate256 (length out.old) (finished rate256 (state self.old)) }
+    {
+        self.finish();
+        self.squeeze(out);
+    }
 }
 
 // SHAKE256 of one piece fills out.
 pub fn digest(m: &[u8], out: &mut [u8])
     ensures { out.new ≡ shake256 m.now (length out.old) }
 {
-    let mut s = [0u64; 25];
-    let p = absorb(&mut s, 0, m);
-    let q = finish(&mut s, p);
-    let r = squeeze(&mut s, q, out);
+    let mut s = Shake256::new();
+    s.absorb(m);
+    s.end(out);
 }

@@ -2,22 +2,24 @@
 -- overlap.
 -- Assumes nothing.
 use mathlib.Core.Path.{◌≡◌, refl, sym, ap, ap₂, ◌∙◌, subst}
-use Prim.Native.Nat.{ℕ, zero, suc, ◌+◌, ◌-◌, ◌*◌, ◌/◌, ◌%◌, ◌^◌, ◌<◌, ◌≤◌, min}
-use mathlib.Core.List.{List, [], ◌∷◌, ◌++◌, append_assoc}
+use Prim.Native.Nat.{ℕ, zero, suc, ◌+◌, ◌*◌, ◌/◌, ◌%◌, ◌^◌, ◌<◌, ◌≤◌}
+use mathlib.Core.List.{List, [], ◌∷◌}
 use native.Mathlib.Omega.{arith}
 use native.Mathlib.Nat.{mul-lt-mul_of_pos_right, mul-le-mul_left, mul_assoc, mul_comm, add-mul, add_comm, add-zero}
-use native.Mathlib.Nat.{zero-mul, mul-one, div-one, lt_of_not-le, lt_of_lt_of_le, mod-eq_of_lt}
+use native.Mathlib.Nat.{div-div-eq-div-mul, zero-mul, mul-one, div-one, lt_of_not-le, lt_of_lt_of_le, mod-eq_of_lt}
 use native.Mathlib.Decide.{dec_le}
-use lib.ListN.{get_or, length, take, drop, set, length-take}
-use lib.Seq.{take-suc-set, drop-cons, set-set, set_out, set-get_or, get_or-set_same}
+use lib.ListN.{get_or, length, take, drop, set}
+use lib.Seq.{drop-cons, set-set, set_out, set-get_or, get_or-set_same}
 use lib.Pow.{pow_pos, pow-add, pow_mono, shr-shr}
 use lib.Bits.{bit_xor, xor_comm, xor_zero_r, xor_shifted}
+use Rattle.std.specs.Int.{w64, from_le_bytes, to_le_bytes}
+use Rattle.std.proofs.lemmas.List.{length-take-le, take-append-drop, drop_all}
 use Rattle.lists.specs.Below.{Below}
-use Rattle.lists.proofs.Below.{below_take, below_drop}
+use Rattle.lists.proofs.Below.{below_take}
 use Rattle.lists.proofs.Xor.{xor_assoc}
 use Rattle.sponge.specs.Sponge.{digits, number}
 use Rattle.sponge.specs.Stream.{Sponge, sponge, byte_of, mixed, step, put, feed, draw}
-use Rattle.sponge.proofs.Stream.{turn_no, draw_step}
+use Rattle.sponge.proofs.Stream.{turn_no, draw_step, feed_append}
 
 -- A byte shifted within a lane loses nothing.
 pub shifted : (b n : ℕ) → b < 256 → n ≤ 56 → b * 2 ^ n % 2 ^ 64 ≡ b * 2 ^ n
@@ -101,6 +103,51 @@ lane_in r p hp hl s at ha hr =
     ∙ bytes_into r (at / 8) (omega arith) p hp s 0 (omega arith)
     ∙ ap₂ (λ (x q : ℕ). sponge (set s (at / 8) (bit_xor (get_or s (at / 8) 0) x)) q) (mul-one (number 8 p)) f
 
+number_from : (p : List ℕ) (i : ℕ) → i < length p
+    → number 8 (drop i p) ≡ get_or p i 0 + 256 * number 8 (drop (suc i) p)
+unfolding number
+number_from p i h = ap (number 8) (drop-cons p i 0 h)
+
+-- The number of eight bytes, as the library reads it.
+number_le : (p : List ℕ) → length p ≡ 8 → from_le_bytes w64 p ≡ number 8 p
+unfolding number
+number_le p l =
+    let n = λ (i : ℕ) (h : i < 8). number_from p i (omega arith) in
+    let past : number 8 (drop 8 p) ≡ 0 = ap (number 8) (drop_all 8 p (omega arith)) in
+    omega (
+      arith,
+      past,
+      n 0 (omega arith),
+      n 1 (omega arith),
+      n 2 (omega arith),
+      n 3 (omega arith),
+      n 4 (omega arith),
+      n 5 (omega arith),
+      n 6 (omega arith),
+      n 7 (omega arith),
+    )
+
+-- A message's first eight bytes go into a lane.
+pub lane_first : (r : ℕ) (m : List ℕ) → Below 256 m → 8 ≤ length m → (s : List ℕ) (at : ℕ) → at % 8 ≡ 0 → at + 8 ≤ r
+    → let lane : ℕ = bit_xor (get_or s (at / 8) 0) (from_le_bytes w64 (take 8 m)) in
+    feed r (sponge (set s (at / 8) lane) (at + 8)) (drop 8 m) ≡ feed r (sponge s at) m
+lane_first r m hm hl s at ha hr =
+    let p : List ℕ = take 8 m in
+    let n : length p ≡ 8 = length-take-le 8 m hl in
+    ap (λ (x : ℕ). feed r (sponge (set s (at / 8) (bit_xor (get_or s (at / 8) 0) x)) (at + 8)) (drop 8 m))
+    (number_le p n)
+    ∙ ap (λ (k : Sponge). feed r k (drop 8 m)) (sym (lane_in r p (below_take 256 8 m (omega arith) hm) n s at ha hr))
+    ∙ sym (feed_append r (sponge s at) p (drop 8 m))
+    ∙ ap (feed r (sponge s at)) (take-append-drop 8 m)
+
+-- A message's first byte goes in.
+pub byte_first : (r : ℕ) (m : List ℕ) → Below 256 m → 0 < length m → (s : List ℕ) (at : ℕ) → at < r
+    → feed r (sponge (mixed s at (get_or m 0 0)) (at + 1)) (drop 1 m) ≡ feed r (sponge s at) m
+unfolding feed
+byte_first r m hm hl s at ha =
+    ap (λ (k : Sponge). feed r k (drop 1 m)) (sym (byte_in r s at (get_or m 0 0) ha (hm 0)))
+    ∙ ap (feed r (sponge s at)) (sym (drop-cons m 0 0 hl))
+
 -- Bytes come out of lane j above o bytes of it.
 bytes_out : (r j : ℕ) → 8 * j + 8 ≤ r → (s : List ℕ) (n o : ℕ) → o + n ≤ 8
     → draw r n (sponge s (8 * j + o)) ≡ digits 8 n (get_or s j 0 / 2 ^ (8 * o))
@@ -131,42 +178,7 @@ pub byte_out : (r : ℕ) (s : List ℕ) (at : ℕ) → at < r → draw r 1 (spon
 unfolding draw
 byte_out r s at h = draw_step r s at 0 h
 
--- A number of bytes is below its power.
-number_lt : (p : List ℕ) → Below 256 p → number 8 p < 2 ^ (8 * length p)
-unfolding number
-number_lt [] h = pow_pos 0
-number_lt (b ∷ p) h =
-    let e : 8 * suc (length p) ≡ 8 + 8 * length p = omega arith in
-    let q : b < 256 = h 0 in
-    let g : number 8 p < 2 ^ (8 * length p) = number_lt p (λ i. h (suc i)) in
-    rw (e, pow-add 2 8 (8 * length p)) (omega arith)
-
--- Seven bytes and fewer leave room for one more in a lane.
-pub number_room : (m : List ℕ) → Below 256 m → (i k : ℕ) → 0 < k → number 8 (take (8 - k) (drop (i + k) m)) < 2 ^ 56
-number_room m h i k hk =
-    let p : List ℕ = take (8 - k) (drop (i + k) m) in
-    let e : length p ≡ min (8 - k) (length (drop (i + k) m)) = length-take (8 - k) (drop (i + k) m) in
-    lt_of_lt_of_le
-    (number_lt p (below_take 256 (8 - k) (drop (i + k) m) (omega arith) (below_drop 256 (i + k) m h)))
-    (pow_mono {i = 8 * length p} {j = 56} (omega arith))
-
--- A lane's value so far and its byte below.
-pub number_turn : (m : List ℕ) (i k : ℕ) → 0 < k → k ≤ 8 → i + 8 ≤ length m
-    → number 8 (take (8 - (k - 1)) (drop (i + (k - 1)) m))
-    ≡ number 8 (take (8 - k) (drop (i + k) m)) * 256 + get_or m (i + (k - 1)) 0
-unfolding number
-number_turn m i k hk h8 hi =
-    let e : 8 - (k - 1) ≡ suc (8 - k) = omega arith in
-    let f : suc (i + (k - 1)) ≡ i + k = omega arith in
-    let h : i + (k - 1) < length m = omega arith in
-    rw (e, drop-cons m (i + (k - 1)) 0 h, f) (omega arith)
-
--- A store of a lane's next byte leaves the rest of its bytes.
-pub store_next : (l : List ℕ) (i k w : ℕ) → i + k < length l → k < 8
-    → take (i + (k + 1)) (set l (i + k) (w % 256)) ++ digits 8 (8 - (k + 1)) (w / 256)
-    ≡ take (i + k) l ++ digits 8 (8 - k) w
+-- The bytes of a lane, as the library gives them.
+pub le_digits : (w : ℕ) → to_le_bytes w64 w ≡ digits 8 8 w
 unfolding digits
-store_next l i k w h hk =
-    let e : i + (k + 1) ≡ suc (i + k) = omega arith in
-    let f : 8 - k ≡ suc (8 - (k + 1)) = omega arith in
-    rw (e, take-suc-set l (i + k) (w % 256) h, f, append_assoc)
+le_digits w = simp div-div-eq-div-mul refl

@@ -7,8 +7,8 @@ use mathlib.Core.List.{List, [], ◌∷◌, ◌++◌}
 use native.Mathlib.Omega.{arith}
 use native.Mathlib.Nat.{add-zero, zero-add, suc-add, lt_of_not-le, mod-lt}
 use native.Mathlib.Decide.{dec_le}
-use lib.ListN.{length, take, drop, length-take, length-drop}
-use lib.Seq.{take-add, take_at}
+use lib.ListN.{length, take}
+use lib.Seq.{take_at}
 use borrow.Author.Tests.{le-leb, lt-leb}
 use Rattle.lists.specs.Below.{Below}
 use Rattle.lists.proofs.Below.{below_nil, below_cons}
@@ -39,11 +39,6 @@ module _ (r : ℕ) where
   feed_append k [] b = refl
   feed_append k (x ∷ a) b = feed_append (put r k x) a b
 
-  -- A message's next n bytes.
-  feed_more : (k : Sponge) (m : List ℕ) (i n : ℕ)
-      → feed r k (take (i + n) m) ≡ feed r (feed r k (take i m)) (take n (drop i m))
-  feed_more k m i n = rw (take-add i n m) (feed_append k (take i m) (take n (drop i m)))
-
   -- A turn before some bytes changes nothing.
   pub feed_turn : 0 < r → (k : Sponge) (m : List ℕ) → 0 < length m → feed r (turn r k) m ≡ feed r k m
   unfolding feed put
@@ -55,14 +50,6 @@ module _ (r : ℕ) where
   unfolding feed
   turn_feed p k [] = turn_turn p k
   turn_feed p k (b ∷ m) = ap (turn r) (feed_turn p k (b ∷ m) (omega arith))
-
-  -- A turn and the next n bytes.
-  pub feed_next : {x y z : Sponge} → 0 < r → (k : Sponge) (m : List ℕ) (i n : ℕ) → 0 < n → i + n ≤ length m
-      → x ≡ feed r k (take i m) → y ≡ turn r x → z ≡ feed r y (take n (drop i m)) → z ≡ feed r k (take (i + n) m)
-  feed_next p k m i n hn hm ex ey ez =
-      ez ∙ ap (λ (t : Sponge). feed r t (take n (drop i m))) (ey ∙ ap (turn r) ex)
-      ∙ feed_turn p (feed r k (take i m)) (take n (drop i m)) (simp (length-take, length-drop) (omega arith))
-      ∙ sym (feed_more k m i n)
 
   drawn_turn : 0 < r → (n : ℕ) (k : Sponge) → 0 < n → drawn r n (turn r k) ≡ drawn r n k
   unfolding drawn
@@ -97,12 +84,11 @@ module _ (r : ℕ) where
       ap (λ (k : Sponge). drawn r n (past k)) (turn_no (sponge s p) (omega arith)) ∙ drawn_in n s (p + 1) (omega arith)
       ∙ ap (sponge s) e
 
-  -- The place after the next n bytes, within the rate.
-  pub drawn_next : {x : Sponge} → 0 < r → (k : Sponge) (s : List ℕ) (p i n : ℕ) → 0 < n → p + n ≤ r
-      → x ≡ drawn r i k → sponge s p ≡ turn r x → sponge s (p + n) ≡ drawn r (i + n) k
-  drawn_next q k s p i n hn hr ex ey =
-      sym (drawn_in n s p hr) ∙ ap (drawn r n) (ey ∙ ap (turn r) ex) ∙ drawn_turn q n (drawn r i k) hn
-      ∙ sym (drawn_add i n k)
+  -- A turn and the next n bytes.
+  pub drawn_next : {x y z : Sponge} → 0 < r → (k : Sponge) (i n : ℕ) → 0 < n
+      → x ≡ drawn r i k → y ≡ turn r x → z ≡ drawn r n y → z ≡ drawn r (i + n) k
+  drawn_next q k i n hn ex ey ez =
+      ez ∙ ap (drawn r n) (ey ∙ ap (turn r) ex) ∙ drawn_turn q n (drawn r i k) hn ∙ sym (drawn_add i n k)
 
   -- The next n bytes behind those before.
   pub draw_next : {x y : Sponge} {a b : List ℕ} → 0 < r → (k : Sponge) (i n : ℕ) → 0 < n

@@ -8,4 +8,4 @@ use Rattle.absorbing.proofs.mix.Goals as goal
 
 pub returns : goal.returns
 unfolding mixed
-returns c = rw (shifted c.args.b (8 * (c.args.at % 8)) (omega arith) (omega arith))
+returns c = rw (c.from.ensures, shifted c.args.b (8 * (c.args.at % 8)) (omega arith) (omega arith))

@@ -2,7 +2,9 @@
 -- Assumes nothing.
 use mathlib.Core.List.{◌++◌}
 use Rattle.shake.specs.Shake.{shake256}
-use Rattle.lists.proofs.Parts.{zeros_part, front_part}
+use lib.ListN.{replicate}
+use Rattle.std.proofs.lemmas.List.{length-take-le}
+use Rattle.lists.proofs.Parts.{front_part}
 use Rattle.addresses.specs.Addresses.{bytes_of}
 use Rattle.calls.proofs.call_value.Goals as goal
 
@@ -10,4 +12,4 @@ pub returns : goal.returns
 returns c =
     let a = c.args in
     front_part (shake256 (a.seed.now ++ (bytes_of a.adrs ++ a.input.now))) a.n _
-    c.call.ensures c.call.auto.out (zeros_part a.n 32 c.requires)
+    c.call.ensures c.call.auto.out (length-take-le a.n (replicate 32 0) c.requires)

@@ -1,22 +1,21 @@
--- `h` is H of two joined values: public seed and address are fed, then both.
+-- `h` is H of two joined values: public seed, address and both values are fed one after the other.
 -- Assumes nothing.
-use mathlib.Core.Path.{ap, ◌∙◌}
-use mathlib.Core.List.{◌++◌}
-use Rattle.shake.specs.Shake.{shake256}
-use Rattle.lists.proofs.Parts.{zeros_part}
+use mathlib.Core.Path.{◌∙◌}
+use Prim.Native.Nat.{ℕ}
+use lib.ListN.{replicate}
+use Rattle.std.proofs.lemmas.List.{length-take-le}
+use Rattle.lists.proofs.Parts.{front_part}
+use Rattle.sponge.specs.Stream.{finish, draw}
+use Rattle.shake.specs.Shake.{rate256}
+use Rattle.shake.specs.State.{state}
+use Rattle.shake.proofs.Laws.{shaken, feed_append}
 use Rattle.calls.specs.Hashes.{family}
-use Rattle.calls.proofs.HashLaws.{three_joined, front_drawn}
 use Rattle.calls.proofs.h.Goals as goal
 
 pub returns : goal.returns
 unfolding family
 returns c =
-    let seed = c.args.seed.now in
-    let x = c.args.left.now ++ c.args.right.now in
-    let bytes = c.address_bytes-b in
     let n = c.args.kit.n in
-    let front =
-    front_drawn n _ _ c.end.ensures c.end.auto.out (zeros_part n 32 c.requires) in
-    three_joined seed bytes.result x n c.absorb_two-p.ensures
-    c.absorb_two-q.ensures front
-    ∙ ap (λ b. shake256 (seed ++ (b ++ x)) n) bytes.ensures
+    let drawn = λ (m : ℕ). draw rate256 m (finish rate256 (state c.absorb-4.new.self)) in
+    front_part drawn n _ c.end.ensures c.end.auto.out (length-take-le n (replicate 32 0) c.requires)
+    ∙ rw (shaken, feed_append, feed_append, feed_append) (cc)

@@ -7,10 +7,9 @@ use Rattle.sponge.specs.Stream.{sponge, draw, drawn}
 use Rattle.squeezing.proofs.squeeze.Given as goal
 
 abbrev pub invariant-loop-i : goal.invariant-loop-i
-invariant-loop-i l =
-    (l.i ≤ length l.out) × (length l.out ≡ length l.initial.out)
-    × (sponge l.s l.p ≡ drawn l.rate l.i (sponge l.initial.s l.at))
-    × (take l.i l.out ≡ draw l.rate l.i (sponge l.initial.s l.at))
+invariant-loop-i g l =
+    let k = sponge l.initial.s.lanes l.initial.s.at in
+    (l.i ≤ length l.out) × (sponge l.s.lanes l.s.at ≡ drawn g.row.RATE l.i k) × (take l.i l.out ≡ draw g.row.RATE l.i k)
 
 abbrev pub decreases-loop-i : goal.decreases-loop-i
-decreases-loop-i l = length l.out - l.i
+decreases-loop-i g l = length l.out - l.i

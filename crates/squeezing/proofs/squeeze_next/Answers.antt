@@ -1,32 +1,35 @@
 -- `squeeze_next` draws eight bytes or one, since eight come out of a lane at once as they come one by one.
 -- Assumes nothing.
 use mathlib.Core.Path.{sym, ap, ◌∙◌}
-use Prim.Native.Nat.{ℕ}
-use mathlib.Core.List.{List, [], ◌∷◌, ◌++◌}
+use Prim.Native.Nat.{◌/◌}
 use native.Mathlib.Omega.{arith}
-use native.Mathlib.Numerals.{add-one}
-use lib.ListN.{set, take}
-use lib.Seq.{take-suc-set}
+use lib.ListN.{length, drop, get_or}
+use lib.Seq.{take_at, take-suc-set}
 use Rattle.sponge.specs.Stream.{byte_of}
-use Rattle.sponge.proofs.Lanes.{lane_out, byte_out}
+use Rattle.sponge.proofs.Lanes.{lane_out, byte_out, le_digits}
+use Rattle.sponge.proofs.Stream.{drawn_in}
 use Rattle.squeezing.proofs.squeeze_next.Goals as goal
 
-pub returns-then-out-i-ge8 : goal.returns-then-out-i-ge8
-returns-then-out-i-ge8 c =
-    let a = c.args in
-    let e = lane_out a.rate a.s.now a.at (omega arith) (omega arith) in record {
-      written = omega arith;
-      out_after = c.put_lane.ensures ∙ ap (λ (l : List ℕ). take a.i a.out.now ++ l) (sym e);
-    }
+pub returns-then-out-ge8-clause-state_after : goal.returns-then-out-ge8-clause-state_after
+returns-then-out-ge8-clause-state_after g c =
+    let s = c.args.s.now in
+    sym (drawn_in g.row.RATE 8 s.lanes s.at (omega arith))
 
-pub returns : goal.returns
+pub returns-then-out-ge8-clause-out_after : goal.returns-then-out-ge8-clause-out_after
+returns-then-out-ge8-clause-out_after g c =
+    let s = c.args.s.now in
+    let e = c.copy_from_slice.ensures.after ∙ c.to_le_bytes.ensures in
+    take_at c.copy_from_slice.new.self (drop 8 c.args.out.now) 8 (ap length e) ∙ e
+    ∙ le_digits (get_or s.lanes (s.at / 8) 0)
+    ∙ sym (lane_out g.row.RATE s.lanes s.at (omega arith) (omega arith))
+
+pub returns-clause-state_after : goal.returns-clause-state_after
+returns-clause-state_after g c =
+    let s = c.args.s.now in
+    sym (drawn_in g.row.RATE 1 s.lanes s.at (omega arith))
+
+pub returns-clause-out_after : goal.returns-clause-out_after
 unfolding byte_of
-returns c =
-    let a = c.args in
-    let o = a.out.now in record {
-      written = omega arith;
-      out_after = ap (λ (n : ℕ). take n (set o a.i c.low.result)) (add-one a.i)
-          ∙ take-suc-set o a.i c.low.result (omega arith)
-          ∙ ap (λ (x : ℕ). take a.i o ++ (x ∷ [])) c.low.ensures
-          ∙ ap (λ (l : List ℕ). take a.i o ++ l) (sym (byte_out a.rate a.s.now a.at (omega arith)));
-    }
+returns-clause-out_after g c =
+    let s = c.args.s.now in
+    take-suc-set c.args.out.now 0 _ (omega arith) ∙ sym (byte_out g.row.RATE s.lanes s.at (omega arith))

@@ -1,9 +1,8 @@
 -- `finish` ends the message: the suffix and the padding's two ones are two bytes added to the last block.
 -- Assumes nothing.
 use Rattle.sponge.specs.Stream.{close, finish}
-use Rattle.absorbing.proofs.finish.Goals as goal
+use Rattle.absorbing.proofs.Sponge.finish.Goals as goal
 
 pub returns : goal.returns
 unfolding finish close
-returns c =
-    rw (c.mix-2.ensures, c.mix.ensures, ← c.turn-p.ensures.state_after)
+returns g c = rw (c.mix-2.ensures, c.mix.ensures, ← c.turn.ensures.state_after)
