@@ -2,7 +2,7 @@
 // in where the place is a lane's first.
 #![tactic(auto)]
 
-ghost use Rattle.std.specs.Prelude.{◌≡◌, ◌+◌, ◌≤◌, ◌<◌, ◌%◌, length, replicate};
+ghost use Rattle.std.specs.Prelude.{◌≡◌, ◌<◌, length};
 ghost use Rattle.sponge.specs.Stream.{Rate, sponge, mixed, empty, turn as turned, feed, finish as finished};
 
 use permutation::permute;

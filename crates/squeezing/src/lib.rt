@@ -2,7 +2,7 @@
 // went in ended. Whole lanes come out where the place is a lane's first.
 #![tactic(auto)]
 
-ghost use Rattle.std.specs.Prelude.{◌≡◌, ◌+◌, ◌≤◌, ◌<◌, length, take};
+ghost use Rattle.std.specs.Prelude.{◌≡◌, ◌≤◌, ◌<◌, length, take};
 ghost use Rattle.sponge.specs.Stream.{sponge, draw, drawn};
 
 use absorbing::Sponge;
@@ -31,6 +31,7 @@ pub fn squeeze<const RATE: usize>(s: &mut Sponge<RATE>, out: &mut [u8])
         ≡ drawn RATE (length out.old) (sponge s.old.lanes s.old.at) }
     ensures out_after { out.new ≡ draw RATE (length out.old) (sponge s.old.lanes s.old.at) }
 {
+    // An index, since after a loop that shrinks a slice nothing is known of what was written to the whole.
     let mut i: usize = 0;
     while i < out.len() {
         s.turn();
