@@ -8,6 +8,7 @@ use Rattle.rules.specs.Calls.{Family, shake_family, Hashes, under}
 use Rattle.rules.specs.Sets.{Row}
 use Rattle.rows.specs.declared.Row
 use Rattle.calls.specs.declared.Kit.{Kit}
+use Rattle.calls.specs.declared.Hashes as code
 
 pub shake256_sized : (x : Bytes) (n : ℕ) → IsBytes n (shake256 x n)
 shake256_sized x n = record { long = length-shake256 x n; small = below_shake256 x n }
@@ -22,6 +23,10 @@ family_of kit = family kit.n kit.m
 -- The functions that take an address, at a public seed.
 abbrev pub hashes_of : Kit → (seed : Bytes) → Hashes
 hashes_of kit seed = under (family_of kit) seed
+
+-- The rules' functions of those of the code.
+abbrev pub ruled_hashes : code.Hashes → Hashes
+ruled_hashes h = hashes_of h.kit h.seed.now
 
 -- The family of a row.
 abbrev pub family_for : (r : Row) → Family r.n r.m

@@ -5,7 +5,7 @@ ghost use Rattle.std.specs.Prelude.{◌≡◌, ◌++◌, ◌≤◌, length, take
 ghost use Rattle.shake.specs.Shake.{shake256};
 ghost use Rattle.rules.specs.Calls.{Function};
 ghost use Rattle.addresses.specs.Addresses.{bytes_of};
-ghost use Rattle.calls.specs.Hashes.{kit_for, family_of};
+ghost use Rattle.calls.specs.Hashes.{kit_for, ruled_hashes};
 
 use addresses::{Address, address_bytes};
 use rows::Row;
@@ -25,17 +25,18 @@ pub fn kit_of(row: Row) -> Kit
     Kit { n: row.n, m: row.m }
 }
 
-// F in place.
-pub fn f_in(kit: Kit, seed: &[u8], adrs: Address, io: &mut [u8])
-    requires { length io.old ≡ kit.n }
-    ensures { io.new
-        ≡ (family_of kit).hash Function.F seed.now (bytes_of adrs) io.old }
-{
-    let mut s = Shake256::new();
-    s.absorb(seed);
-    s.absorb(&address_bytes(adrs));
-    s.absorb(io);
-    s.end(io);
+// The hash functions that take an address, under a public seed.
+#[derive(Clone, Copy)]
+pub struct Hashes<'a> {
+    pub kit: Kit,
+    pub seed: &'a [u8],
+}
+
+// The holder of a key: the hash functions under its public seed, and its secret seed.
+#[derive(Clone, Copy)]
+pub struct Holder<'a> {
+    pub hashes: Hashes<'a>,
+    pub secret: &'a [u8],
 }
 
 // A call with one input.
@@ -50,15 +51,6 @@ fn call(seed: &[u8], adrs: Address, input: &[u8], out: &mut [u8])
     s.end(out);
 }
 
-// A secret value.
-pub fn secret_in(kit: Kit, seed: &[u8], adrs: Address, sk: &[u8], out: &mut [u8])
-    requires { length out.old ≡ kit.n }
-    ensures { out.new
-        ≡ (family_of kit).hash Function.PRF seed.now (bytes_of adrs) sk.now }
-{
-    call(seed, adrs, sk, out);
-}
-
 // A call with one input, by value.
 fn call_value(n: usize, seed: &[u8], adrs: Address, input: &[u8]) -> [u8; 32]
     requires { n ≤ 32 }
@@ -69,36 +61,61 @@ fn call_value(n: usize, seed: &[u8], adrs: Address, input: &[u8]) -> [u8; 32]
     out
 }
 
-// F of a value.
-pub fn f(kit: Kit, seed: &[u8], adrs: Address, input: &[u8]) -> [u8; 32]
-    requires { kit.n ≤ 32 }
-    ensures { take kit.n result
-        ≡ (family_of kit).hash Function.F seed.now (bytes_of adrs) input.now }
-{
-    call_value(kit.n, seed, adrs, input)
+impl<'a> Hashes<'a> {
+    // F in place.
+    pub fn f_in(&self, adrs: Address, io: &mut [u8])
+        requires { length io.old ≡ self.now.kit.n }
+        ensures { io.new ≡ (ruled_hashes self.now).hash Function.F (bytes_of adrs) io.old }
+    {
+        let mut s = Shake256::new();
+        s.absorb(self.seed);
+        s.absorb(&address_bytes(adrs));
+        s.absorb(io);
+        s.end(io);
+    }
+
+    // F of a value.
+    pub fn f(&self, adrs: Address, input: &[u8]) -> [u8; 32]
+        requires { self.now.kit.n ≤ 32 }
+        ensures { take self.now.kit.n result
+            ≡ (ruled_hashes self.now).hash Function.F (bytes_of adrs) input.now }
+    {
+        call_value(self.kit.n, self.seed, adrs, input)
+    }
+
+    // T of joined values.
+    pub fn t(&self, adrs: Address, input: &[u8]) -> [u8; 32]
+        requires { self.now.kit.n ≤ 32 }
+        ensures { take self.now.kit.n result
+            ≡ (ruled_hashes self.now).hash Function.T (bytes_of adrs) input.now }
+    {
+        call_value(self.kit.n, self.seed, adrs, input)
+    }
+
+    // H of two values.
+    pub fn h(&self, adrs: Address, left: &[u8], right: &[u8]) -> [u8; 32]
+        requires { self.now.kit.n ≤ 32 }
+        ensures { take self.now.kit.n result
+            ≡ (ruled_hashes self.now).hash Function.H (bytes_of adrs) (left.now ++ right.now) }
+    {
+        let mut s = Shake256::new();
+        s.absorb(self.seed);
+        s.absorb(&address_bytes(adrs));
+        s.absorb(left);
+        s.absorb(right);
+        let mut out = [0u8; 32];
+        s.end(&mut out[..self.kit.n]);
+        out
+    }
 }
 
-// T of joined values.
-pub fn t(kit: Kit, seed: &[u8], adrs: Address, input: &[u8]) -> [u8; 32]
-    requires { kit.n ≤ 32 }
-    ensures { take kit.n result
-        ≡ (family_of kit).hash Function.T seed.now (bytes_of adrs) input.now }
-{
-    call_value(kit.n, seed, adrs, input)
-}
-
-// H of two values.
-pub fn h(kit: Kit, seed: &[u8], adrs: Address, left: &[u8], right: &[u8]) -> [u8; 32]
-    requires { kit.n ≤ 32 }
-    ensures { take kit.n result
-        ≡ (family_of kit).hash Function.H seed.now (bytes_of adrs) (left.now ++ right.now) }
-{
-    let mut s = Shake256::new();
-    s.absorb(seed);
-    s.absorb(&address_bytes(adrs));
-    s.absorb(left);
-    s.absorb(right);
-    let mut out = [0u8; 32];
-    s.end(&mut out[..kit.n]);
-    out
+impl<'a> Holder<'a> {
+    // A secret value.
+    pub fn secret_in(&self, adrs: Address, out: &mut [u8])
+        requires { length out.old ≡ self.now.hashes.kit.n }
+        ensures { out.new
+            ≡ (ruled_hashes self.now.hashes).hash Function.PRF (bytes_of adrs) self.now.secret.now }
+    {
+        call(self.hashes.seed, adrs, self.secret, out);
+    }
 }

@@ -7,10 +7,10 @@ ghost use Rattle.rules.specs.Places.{chain_step};
 ghost use Rattle.rules.specs.Calls.{Kind, Function};
 ghost use Rattle.rules.specs.Chains.{chain, own_chain, shown};
 ghost use Rattle.counts.specs.Counts.{count};
-ghost use Rattle.calls.specs.Hashes.{hashes_of};
+ghost use Rattle.calls.specs.Hashes.{ruled_hashes};
 
-use addresses::address_at;
-use calls::{Kit, f_in, secret_in};
+use addresses::{PlaceKind, address_at};
+use calls::{Hashes, Holder};
 
 // Which leaf: its layer, its tree there and its number in the tree, the key pair.
 #[derive(Clone, Copy)]
@@ -21,26 +21,23 @@ pub struct Spot {
 }
 
 // Some steps of chain c from a position on, in place. Returns the F calls.
-pub fn chain_in(
-    kit: Kit,
-    seed: &[u8],
-    spot: Spot,
-    c: u32,
-    start: u32,
-    steps: u32,
-    io: &mut [u8],
-) -> u32
-    requires { (length io.old ≡ kit.n) × (start + steps < 16) }
-    ensures io_after { io.new ≡ (chain (hashes_of kit seed.now)
+pub fn chain_in(hashes: &Hashes, spot: Spot, c: u32, start: u32, steps: u32, io: &mut [u8]) -> u32
+    requires { (length io.old ≡ hashes.now.kit.n) × (start + steps < 16) }
+    ensures io_after { io.new ≡ (chain (ruled_hashes hashes.now)
         (chain_step spot.layer spot.tree spot.pair c) io.old start steps).result }
-    ensures f_calls { result ≡ count (Kind.of Function.F) (chain (hashes_of kit seed.now)
+    ensures f_calls { result ≡ count (Kind.of Function.F) (chain (ruled_hashes hashes.now)
         (chain_step spot.layer spot.tree spot.pair c) io.old start steps).calls }
 {
     for k in 0..steps {
-        f_in(
-            kit,
-            seed,
-            address_at(0, spot.layer, spot.tree, spot.pair, c, start + k),
+        hashes.f_in(
+            address_at(
+                PlaceKind::ChainStep,
+                spot.layer,
+                spot.tree,
+                spot.pair,
+                c,
+                start + k,
+            ),
             io,
         );
     }
@@ -48,30 +45,34 @@ pub fn chain_in(
 }
 
 // The key's own value at a position of chain c.
-fn own_chain(kit: Kit, seed: &[u8], sk: &[u8], spot: Spot, c: u32, steps: u32, out: &mut [u8])
-    requires { (length out.old ≡ kit.n) × (steps < 16) }
-    ensures { out.new ≡ own_chain (hashes_of kit seed.now)
-        spot.layer spot.tree spot.pair sk.now c steps }
+fn own_chain(holder: &Holder, spot: Spot, c: u32, steps: u32, out: &mut [u8])
+    requires { (length out.old ≡ holder.now.hashes.kit.n) × (steps < 16) }
+    ensures { out.new ≡ own_chain (ruled_hashes holder.now.hashes)
+        spot.layer spot.tree spot.pair holder.now.secret.now c steps }
 {
-    secret_in(
-        kit,
-        seed,
-        address_at(5, spot.layer, spot.tree, spot.pair, c, 0),
-        sk,
+    holder.secret_in(
+        address_at(
+            PlaceKind::ChainSecret,
+            spot.layer,
+            spot.tree,
+            spot.pair,
+            c,
+            0,
+        ),
         out,
     );
-    chain_in(kit, seed, spot, c, 0, steps, out);
+    chain_in(&holder.hashes, spot, c, 0, steps, out);
 }
 
 // What a seal shows for the digits, chain after chain.
-pub fn shown_in(kit: Kit, seed: &[u8], sk: &[u8], spot: Spot, ds: &[u32], out: &mut [u8])
-    requires { (length out.old ≡ length ds.now * kit.n) × (length ds.now < 2 ^ 32) × Below 16 ds.now }
-    ensures { out.new ≡ (shown (hashes_of kit seed.now)
-        spot.layer spot.tree spot.pair sk.now 0 ds.now).result }
+pub fn shown_in(holder: &Holder, spot: Spot, ds: &[u32], out: &mut [u8])
+    requires { (length out.old ≡ length ds.now * holder.now.hashes.kit.n) × (length ds.now < 2 ^ 32) × Below 16 ds.now }
+    ensures { out.new ≡ (shown (ruled_hashes holder.now.hashes)
+        spot.layer spot.tree spot.pair holder.now.secret.now 0 ds.now).result }
 {
-    let n = kit.n;
+    let n = holder.hashes.kit.n;
     for (i, &d) in ds.iter().enumerate() {
         let at = i * n;
-        own_chain(kit, seed, sk, spot, i as u32, d, &mut out[at..at + n]);
+        own_chain(holder, spot, i as u32, d, &mut out[at..at + n]);
     }
 }

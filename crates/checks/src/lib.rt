@@ -2,43 +2,40 @@
 #![tactic(auto)]
 
 ghost use Rattle.std.specs.Prelude.{◌≡◌, ◌++◌, length};
+ghost use Rattle.message_calls.specs.Framed.{joined};
 ghost use Rattle.rules.specs.Check.{checked_root};
 ghost use Rattle.rows.specs.Rows.{ruled_row};
-ghost use Rattle.rows.specs.Ready.{Ready};
 ghost use Rattle.calls.specs.Hashes.{family_for};
 ghost use Rattle.climbs.specs.Leads.{Leads};
 
 use climbs::Walked;
 use points::aim;
 use roots::root_at;
-use rows::Row;
+use message_calls::Framed;
+use rows::sets::Set;
 
 // The root that a seal of a framed message, in three pieces, leads to under a public key.
 pub fn checked_root(
-    row: Row,
+    set: Set,
     public: &[u8],
-    head: &[u8],
-    context: &[u8],
-    message: &[u8],
+    framed: &Framed,
     seal: &[u8],
 ) -> Walked
-    requires { Ready (ruled_row row) × (length public.now ≡ row.public) × (length seal.now ≡ row.seal) }
-    ensures { Leads row.n (checked_root (ruled_row row) (family_for (ruled_row row))
-        public.now (head.now ++ (context.now ++ message.now))
+    requires { (length public.now ≡ set.row.public) × (length seal.now ≡ set.row.seal) }
+    ensures { Leads set.row.n (checked_root (ruled_row set.row) (family_for (ruled_row set.row))
+        public.now (joined framed.now)
         seal.now) result }
 {
-    let n = row.n;
+    let n = set.row.n;
     let mut indices = [0u32; 35];
-    let indices = &mut indices[..row.k as usize];
+    let indices = &mut indices[..set.row.k as usize];
     let pointed = aim(
-        row,
+        set,
         &seal[..n],
         &public[..n],
         &public[n..],
-        head,
-        context,
-        message,
+        framed,
         indices,
     );
-    root_at(row, &public[..n], pointed, indices, seal)
+    root_at(set, &public[..n], pointed, indices, seal)
 }

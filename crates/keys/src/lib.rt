@@ -4,23 +4,23 @@
 ghost use Rattle.std.specs.Prelude.{◌≡◌, ◌++◌, ◌+◌, length, take};
 ghost use Rattle.rules.specs.Keys.{key_root, public_key, secret_key};
 ghost use Rattle.rows.specs.Rows.{ruled_row};
-ghost use Rattle.rows.specs.Ready.{Ready};
 ghost use Rattle.calls.specs.Hashes.{family_for};
 
-use calls::kit_of;
+use calls::{Hashes, Holder, kit_of};
 use climbs::groves::Grove;
-use rows::Row;
+use rows::sets::Set;
 use trees::nodes::node;
 
 // The root of the single tree in the topmost layer (lines 1 to 3).
-fn key_root(row: Row, sk: &[u8], pk: &[u8]) -> [u8; 32]
-    requires { Ready (ruled_row row) }
-    ensures { take row.n result ≡ (key_root (ruled_row row) (family_for (ruled_row row)) sk.now
+fn key_root(set: Set, sk: &[u8], pk: &[u8]) -> [u8; 32]
+    ensures { take set.row.n result ≡ (key_root (ruled_row set.row) (family_for (ruled_row set.row)) sk.now
         pk.now).result }
 {
-    let kit = kit_of(row);
-    let top = Grove::Layer(row.d - 1, 0);
-    node(kit, pk, sk, top, row.hp, 0)
+    let kit = kit_of(set.row);
+    let hashes = Hashes { kit, seed: pk };
+    let holder = Holder { hashes, secret: sk };
+    let top = Grove::Layer(set.row.d - 1, 0);
+    node(&holder, top, set.row.hp, 0)
 }
 
 // Two strings, one after the other.
@@ -34,18 +34,17 @@ fn pair_in(a: &[u8], b: &[u8], out: &mut [u8])
 }
 
 // Both keys (line 4): public seed, root; and secret seed, prf seed, public seed, root.
-pub fn keys_in(row: Row, sk: &[u8], prf: &[u8], pk: &[u8], public: &mut [u8], secret: &mut [u8])
-    requires ready { Ready (ruled_row row) × (length sk.now ≡ row.n) × (length prf.now ≡ row.n)
-        × (length pk.now ≡ row.n) }
-    requires keys_len { (length public.old ≡ row.public) × (length secret.old ≡ row.secret) }
-    ensures public_after { public.new ≡ public_key (ruled_row row) (family_for (ruled_row row))
+pub fn keys_in(set: Set, sk: &[u8], prf: &[u8], pk: &[u8], public: &mut [u8], secret: &mut [u8])
+    requires seeds_len { (length sk.now ≡ set.row.n) × (length prf.now ≡ set.row.n) × (length pk.now ≡ set.row.n) }
+    requires keys_len { (length public.old ≡ set.row.public) × (length secret.old ≡ set.row.secret) }
+    ensures public_after { public.new ≡ public_key (ruled_row set.row) (family_for (ruled_row set.row))
         sk.now pk.now }
-    ensures secret_after { secret.new ≡ secret_key (ruled_row row) (family_for (ruled_row row))
+    ensures secret_after { secret.new ≡ secret_key (ruled_row set.row) (family_for (ruled_row set.row))
         sk.now prf.now pk.now }
 {
-    let root = key_root(row, sk, pk);
-    pair_in(pk, &root[..row.n], public);
-    let (seeds, end) = secret.split_at_mut(2 * row.n);
+    let root = key_root(set, sk, pk);
+    pair_in(pk, &root[..set.row.n], public);
+    let (seeds, end) = secret.split_at_mut(2 * set.row.n);
     pair_in(sk, prf, seeds);
     end.copy_from_slice(public);
 }

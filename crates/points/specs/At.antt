@@ -2,7 +2,7 @@
 -- Assumes nothing.
 use Rattle.std.specs.Prelude.{List, ℕ}
 use Rattle.rules.specs.Digest as rules
-use Rattle.points.specs.declared.Pointed.{Pointed}
+use Rattle.climbs.specs.declared.groves.Pointed.{Pointed}
 
 -- A tree and a leaf, with the forest's digits.
 abbrev pub at : Pointed → (indices : List ℕ) → rules.Pointed

@@ -2,24 +2,18 @@
 #![tactic(auto)]
 
 ghost use Rattle.std.specs.Prelude.{◌≡◌, ◌++◌, ◌≤◌, length};
+ghost use Rattle.message_calls.specs.Framed.{joined};
 ghost use Rattle.rules.specs.Digest.{last_bits, pointed};
 ghost use Rattle.rules.specs.Seal.{digest_of};
 ghost use Rattle.rows.specs.Rows.{ruled_row};
 ghost use Rattle.points.specs.At.{at};
-ghost use Rattle.rows.specs.Ready.{Ready};
 ghost use Rattle.calls.specs.Hashes.{family_for};
 
-use calls::kit_of;
+use calls::{Hashes, kit_of};
+use climbs::groves::Pointed;
 use digits::{digits, to_int};
-use message_calls::digest_in;
-use rows::Row;
-
-// The tree in layer 0, and the leaf in it.
-#[derive(Clone, Copy)]
-pub struct Pointed {
-    pub tree: u64,
-    pub leaf: u32,
-}
+use message_calls::{Framed, digest_in};
+use rows::sets::Set;
 
 // The last bits of at most eight bytes, as a number.
 #[tactic(auto, using(crate::proofs::PointLaws::cut))]
@@ -33,38 +27,37 @@ fn last_bits(bits: u32, x: &[u8]) -> u64
 
 // The tree and the leaf that a digest points to; the forest's digits are written to the list lent.
 #[tactic(auto, using(crate::proofs::PointLaws::height_le, crate::proofs::PointLaws::bits_fit))]
-fn point(row: Row, digest: &[u8], indices: &mut [u32]) -> Pointed
-    requires { Ready (ruled_row row) × (length digest.now ≡ row.m) × (length indices.old ≡ row.k) }
-    ensures { at result indices.new ≡ pointed (ruled_row row) digest.now }
+fn point(set: Set, digest: &[u8], indices: &mut [u32]) -> Pointed
+    requires { (length digest.now ≡ set.row.m) × (length indices.old ≡ set.row.k) }
+    ensures { at result indices.new ≡ pointed (ruled_row set.row) digest.now }
 {
-    let bits = row.h - row.hp;
-    let (for_forest, rest) = digest.split_at((row.k * row.a).div_ceil(8) as usize);
+    let bits = set.row.h - set.row.hp;
+    let (for_forest, rest) = digest.split_at((set.row.k * set.row.a).div_ceil(8) as usize);
     let (for_tree, for_leaf) = rest.split_at(bits.div_ceil(8) as usize);
-    digits(for_forest, row.a, indices);
+    digits(for_forest, set.row.a, indices);
     let tree = last_bits(bits, for_tree);
-    let leaf = last_bits(row.hp, for_leaf) as u32;
+    let leaf = last_bits(set.row.hp, for_leaf) as u32;
     Pointed { tree, leaf }
 }
 
 // Where a framed message, in three pieces, points with its randomizer under a key.
 pub fn aim(
-    row: Row,
+    set: Set,
     r: &[u8],
     seed: &[u8],
     root: &[u8],
-    head: &[u8],
-    context: &[u8],
-    message: &[u8],
+    framed: &Framed,
     indices: &mut [u32],
 ) -> Pointed
-    requires { Ready (ruled_row row) × (length indices.old ≡ row.k) }
-    ensures { at result indices.new ≡ pointed (ruled_row row) (digest_of (ruled_row row)
-        (family_for (ruled_row row)) r.now seed.now root.now
-        (head.now ++ (context.now ++ message.now))).result }
+    requires { length indices.old ≡ set.row.k }
+    ensures { at result indices.new ≡ pointed (ruled_row set.row) (digest_of (ruled_row set.row)
+        (family_for (ruled_row set.row)) r.now seed.now root.now
+        (joined framed.now)).result }
 {
     let mut digest = [0; 64];
-    let digest = &mut digest[..row.m];
-    let kit = kit_of(row);
-    digest_in(kit, r, seed, root, head, context, message, digest);
-    point(row, digest, indices)
+    let digest = &mut digest[..set.row.m];
+    let kit = kit_of(set.row);
+    let hashes = Hashes { kit, seed };
+    digest_in(&hashes, r, root, framed, digest);
+    point(set, digest, indices)
 }

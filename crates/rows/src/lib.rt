@@ -1,6 +1,7 @@
 // The sets (FIPS 205, table 2). A set's numbers stand in this table and nowhere else in the code.
 #![tactic(auto)]
 
+pub mod sets;
 pub mod sizes;
 
 ghost use Rattle.std.specs.Prelude.{◌≡◌};

@@ -4,12 +4,12 @@ use mathlib.Core.Path.{◌≡◌}
 use Prim.Native.Nat.{◌+◌, ◌-◌}
 use Rattle.rules.specs.Places.{chain_step}
 use Rattle.rules.specs.Chains.{chain}
-use Rattle.calls.specs.Hashes.{hashes_of}
+use Rattle.calls.specs.Hashes.{ruled_hashes}
 use Rattle.chains.proofs.chain_in.Given as goal
 
 abbrev pub invariant-loop-k : goal.invariant-loop-k
 invariant-loop-k l =
-    (chain (hashes_of l.kit l.seed) (chain_step l.spot.layer l.spot.tree l.spot.pair l.c)
+    (chain (ruled_hashes l.hashes) (chain_step l.spot.layer l.spot.tree l.spot.pair l.c)
     l.io (l.start + l.k) (l.steps - l.k)).result
-    ≡ (chain (hashes_of l.kit l.seed) (chain_step l.spot.layer l.spot.tree l.spot.pair l.c)
+    ≡ (chain (ruled_hashes l.hashes) (chain_step l.spot.layer l.spot.tree l.spot.pair l.c)
     l.initial.io l.start l.steps).result

@@ -2,6 +2,7 @@
 -- Assumes nothing.
 use mathlib.Core.Path.{◌∙◌}
 use mathlib.Core.List.{◌++◌}
+use Rattle.message_calls.specs.Framed.{joined}
 use Rattle.rows.specs.Rows.{ruled_row}
 use Rattle.calls.specs.Hashes.{family_for}
 use Rattle.points.proofs.PointLaws.{in_key}
@@ -10,18 +11,18 @@ use Rattle.checks.proofs.checked_root.Goals as goal
 
 pub root_at-requires : goal.root_at-requires
 root_at-requires c =
-    let q = in_key (ruled_row c.args.row) c.requires.0.legal _ c.aim-pointed.ensures in
+    let q = in_key (ruled_row c.args.set.row) c.args.set.ready.legal _ c.aim-pointed.ensures in
     record {
-      ready = (c.requires.0, c.requires.2);
+      seal_len = c.requires.1;
       indices_fit = (q.indices_long, q.indices_below);
     }
 
 pub returns : goal.returns
 returns c =
     let a = c.args in
-    let r = ruled_row a.row in
-    let M = a.head.now ++ (a.context.now ++ a.message.now) in
-    let two = c.requires.1 ∙ c.requires.0.legal.public_long in
+    let r = ruled_row a.set.row in
+    let M = joined a.framed.now in
+    let two = c.requires.0 ∙ c.args.set.ready.legal.public_long in
     let e = c.aim-pointed.ensures in
     let g = c.root_at.ensures in
     record {

@@ -8,7 +8,7 @@ use lib.ListN.{length, take}
 use lib.Seq.{take_all}
 use Rattle.std.proofs.lemmas.Grind.{common_steps}
 use Rattle.std.proofs.lemmas.Slice.{take-put_mid}
-use Rattle.calls.specs.Hashes.{hashes_of}
+use Rattle.calls.specs.Hashes.{ruled_hashes}
 use Rattle.forest_writes.proofs.ForestLaws.{forest_turn, forest_end}
 use Rattle.forest_writes.proofs.forest_seal_in.Goals as goal
 
@@ -23,7 +23,7 @@ loop-j-preserved c =
     let next : (l.j + 1) * step ≡ at + length ys = search (arith, common_steps) in
     let first : l.j * 2 ^ a.a < 2 ^ 32 = search (arith, common_steps) in
     rw (take-put_mid at _ l.out ys _ next room)
-    (forest_turn (hashes_of a.kit a.seed.now) a.tree a.pair a.a a.sk.now a.ds.now l.j _
+    (forest_turn (ruled_hashes a.holder.now.hashes) a.pointed.tree a.pointed.leaf a.a a.holder.now.secret.now a.ds.now l.j _
     (take at l.out) ys c.loop-j-test.true (mod-eq_of_lt first) c.tree_seal_in.ensures l.invariant)
 
 pub returns : goal.returns
@@ -32,5 +32,5 @@ returns c =
     let a = c.args in
     let at = l.j * c.tree_bytes-step.result in
     let full : length l.out ≤ at = search (arith, common_steps) in
-    forest_end (hashes_of a.kit a.seed.now) a.tree a.pair a.a a.sk.now a.ds.now l.j l.out
+    forest_end (ruled_hashes a.holder.now.hashes) a.pointed.tree a.pointed.leaf a.a a.holder.now.secret.now a.ds.now l.j l.out
     c.loop-j-test.false (rw (take_all at l.out full) at l.invariant)

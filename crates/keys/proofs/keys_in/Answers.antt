@@ -8,7 +8,7 @@ use Rattle.keys.proofs.keys_in.Goals as goal
 pub returns : goal.returns
 returns c =
     let a = c.args in
-    let r = ruled_row a.row in
+    let r = ruled_row a.set.row in
     let e = c.key_root-root.ensures in record {
       public_after = public_made r (family_for r) a.sk.now a.pk.now e c.pair_in.ensures;
       secret_after = secret_made r (family_for r) a.sk.now a.pk.now e c.pair_in.ensures a.prf.now c.pair_in-2.ensures

@@ -8,7 +8,7 @@ use lib.Seq.{take_all}
 use Rattle.lists.proofs.Parts.{piece_room}
 use Rattle.lists.proofs.Filling.{part_written, part_rest, lent_length, lent_split}
 use Rattle.rules.proofs.ChecksumLaws.{steps_le}
-use Rattle.calls.specs.Hashes.{hashes_of}
+use Rattle.calls.specs.Hashes.{ruled_hashes}
 use Rattle.leaf_walks.proofs.Loops.{walk_turn, walk_end, walk_calls, steps_turn, steps_end}
 use Rattle.leaf_walks.proofs.walk_in.Goals as goal
 
@@ -23,7 +23,7 @@ pub loop-i-preserved : goal.loop-i-preserved
 loop-i-preserved c =
     let l = c.loop-i in
     let a = c.args in
-    let n = a.kit.n in
+    let n = a.hashes.now.kit.n in
     let at = l.i * n in
     let ys = c.chain_in-calls.new.io in
     let turn = steps_turn _ _ _ _ a.ds.now l.i _ c.loop-i-test.true c.chain_in-calls.ensures.f_calls in
@@ -33,7 +33,7 @@ loop-i-preserved c =
     let long = c.chain_in-calls.auto.io ∙ lent in
     record {
       walked = rw (next, part_written at n l.io ys room long, part_rest at n l.io ys room long)
-          (walk_turn (hashes_of a.kit a.seed.now) a.spot.layer a.spot.tree a.spot.pair a.ds.now
+          (walk_turn (ruled_hashes a.hashes.now) a.spot.layer a.spot.tree a.spot.pair a.ds.now
           l.i (take at l.io) (take (at + n - at) (drop at l.io)) ys (drop (at + n) l.io)
           c.loop-i-test.true lent c.chain_in-calls.ensures.io_after
           (rw (lent_split at n l.io) at l.invariant.walked));
@@ -44,11 +44,11 @@ pub returns : goal.returns
 returns c =
     let l = c.loop-i in
     let a = c.args in
-    let w = hashes_of a.kit a.seed.now in
-    let full : length l.io ≤ l.i * a.kit.n = grind arith in
+    let w = ruled_hashes a.hashes.now in
+    let full : length l.io ≤ l.i * a.hashes.now.kit.n = grind arith in
     record {
-      io_after = walk_end w a.spot.layer a.spot.tree a.spot.pair a.ds.now l.i l.io (drop (l.i * a.kit.n) l.io)
-          c.loop-i-test.false (rw (take_all (l.i * a.kit.n) l.io full) at l.invariant.walked);
+      io_after = walk_end w a.spot.layer a.spot.tree a.spot.pair a.ds.now l.i l.io (drop (l.i * a.hashes.now.kit.n) l.io)
+          c.loop-i-test.false (rw (take_all (l.i * a.hashes.now.kit.n) l.io full) at l.invariant.walked);
       f_calls = (omega (arith, steps_end a.ds.now l.i c.loop-i-test.false))
           ∙ walk_calls w a.spot.layer a.spot.tree a.spot.pair a.ds.now a.io.now;
     }

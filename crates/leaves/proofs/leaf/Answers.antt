@@ -11,14 +11,14 @@ use Rattle.rules.specs.Places.{address, chain_ends}
 use Rattle.rules.specs.Calls.{T}
 use Rattle.rules.specs.Chains.{ends, shown}
 use Rattle.rules.proofs.ChainLaws.{leaf_is}
-use Rattle.calls.specs.Hashes.{hashes_of}
+use Rattle.calls.specs.Hashes.{ruled_hashes}
 use Rattle.leaves.proofs.EndLaws.{shown_ends}
 use Rattle.rows.proofs.SizeLaws.{size_fits}
 use Rattle.leaves.proofs.leaf.Goals as goal
 
 pub shown_in-requires : goal.shown_in-requires
 shown_in-requires c =
-    let n = c.args.kit.n in
+    let n = c.args.holder.now.hashes.kit.n in
     let len = c.chain_count-len.result in
     let size = c.chain_bytes-size in
     let many = c.chain_count-len.ensures in
@@ -34,14 +34,14 @@ shown_in-requires c =
 pub returns : goal.returns
 returns c =
     let a = c.args in
-    let w = hashes_of a.kit a.seed.now in
+    let w = ruled_hashes a.holder.now.hashes in
     let place = address (chain_ends a.spot.layer a.spot.tree a.spot.pair) in
     let len = c.chain_count-len.result in
     let many = c.chain_count-len.ensures in
     c.compress.ensures
     ∙ ap (w.hash T place) c.shown_in.ensures
-    ∙ ap (λ ds. w.hash T place (shown w a.spot.layer a.spot.tree a.spot.pair a.sk.now 0 ds).result)
+    ∙ ap (λ ds. w.hash T place (shown w a.spot.layer a.spot.tree a.spot.pair a.holder.now.secret.now 0 ds).result)
     (take-replicate len 67 15 (omega (arith, many, c.requires)))
-    ∙ ap (w.hash T place) (shown_ends w a.spot.layer a.spot.tree a.spot.pair a.sk.now 0 len)
-    ∙ ap (λ k. w.hash T place (ends w a.spot.layer a.spot.tree a.spot.pair a.sk.now 0 k).result) many
-    ∙ sym (leaf_is w a.spot.layer a.spot.tree a.spot.pair a.sk.now)
+    ∙ ap (w.hash T place) (shown_ends w a.spot.layer a.spot.tree a.spot.pair a.holder.now.secret.now 0 len)
+    ∙ ap (λ k. w.hash T place (ends w a.spot.layer a.spot.tree a.spot.pair a.holder.now.secret.now 0 k).result) many
+    ∙ sym (leaf_is w a.spot.layer a.spot.tree a.spot.pair a.holder.now.secret.now)

@@ -6,4 +6,4 @@ use Rattle.message_calls.proofs.randomizer_in.Goals as goal
 
 pub returns : goal.returns
 unfolding family
-returns c = rw (shaken, feed_append, feed_append, feed_append, feed_append) (cc)
+returns c = rw (shaken, feed_append, feed_append) (cc)

@@ -1,6 +1,7 @@
 -- `aim` reads where the digest of the framed message points.
 -- Assumes nothing.
 use mathlib.Core.List.{◌++◌}
+use Rattle.message_calls.specs.Framed.{joined}
 use Rattle.rows.specs.Rows.{ruled_row}
 use Rattle.calls.specs.Hashes.{family_for}
 use Rattle.points.proofs.PointLaws.{aimed}
@@ -9,7 +10,7 @@ use Rattle.points.proofs.aim.Goals as goal
 pub returns : goal.returns
 returns c =
     let a = c.args in
-    let r = ruled_row a.row in
+    let r = ruled_row a.set.row in
     aimed r (family_for r) a.r.now a.seed.now a.root.now
-    (a.head.now ++ (a.context.now ++ a.message.now)) (rw c.kit_of-kit.ensures at c.digest_in.ensures)
+    (joined a.framed.now) (rw c.kit_of-kit.ensures at c.digest_in.ensures)
     c.point.ensures

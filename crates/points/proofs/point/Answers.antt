@@ -8,6 +8,6 @@ pub returns : goal.returns
 returns c =
     let one = c.split_at.ensures in
     let two = c.split_at-2.ensures in
-    pointed_at (ruled_row c.args.row) c.args.digest.now c.requires.0.legal c.requires.1 c.div_ceil.result
-    c.div_ceil-2.result c.div_ceil.ensures c.div_ceil-2.ensures _ one.front one.back two.front two.back c.requires.2
+    pointed_at (ruled_row c.args.set.row) c.args.digest.now c.args.set.ready.legal c.requires.0 c.div_ceil.result
+    c.div_ceil-2.result c.div_ceil.ensures c.div_ceil-2.ensures _ one.front one.back two.front two.back c.requires.1
     c.digits.ensures c.last_bits-tree.ensures c.last_bits-leaf.ensures

@@ -1,6 +1,7 @@
 -- `randomizer_of_in` hashes the mixed-in bytes and the framed message.
 -- Assumes nothing.
 use mathlib.Core.List.{◌++◌}
+use Rattle.message_calls.specs.Framed.{joined}
 use Rattle.rules.specs.Seal.{mixed_in}
 use Rattle.rows.specs.Rows.{ruled_row}
 use Rattle.calls.specs.Hashes.{family_for}
@@ -10,7 +11,7 @@ use Rattle.randomizers.proofs.randomizer_of_in.Goals as goal
 pub returns : goal.returns
 returns c =
     let a = c.args in
-    let r = ruled_row a.row in
+    let r = ruled_row a.set.row in
     randomizer_made r (family_for r) a.prf.now (mixed_in a.random.now a.seed.now)
-    (a.head.now ++ (a.context.now ++ a.message.now)) c.mixed_in-mixed.ensures.bytes
+    (joined a.framed.now) c.mixed_in-mixed.ensures.bytes
     (rw c.kit_of-kit.ensures at c.randomizer_in.ensures)

@@ -9,25 +9,25 @@ use Rattle.roots.proofs.root_at.Goals as goal
 
 pub forest_root-low-requires : goal.forest_root-low-requires
 forest_root-low-requires c =
-    let r = ruled_row c.args.row in
-    let long = forest_long r c.args.seal.now c.requires.ready.0 c.requires.ready.1 in
+    let r = ruled_row c.args.set.row in
+    let long = forest_long r c.args.seal.now c.args.set.ready c.requires.seal_len in
     rw (c.kit_of-kit.ensures, c.forest_bytes.ensures)
-    (wood r c.requires.ready.0 _ _ c.requires.indices_fit.0 long, c.requires.indices_fit.1)
+    (wood r c.args.set.ready _ _ c.requires.indices_fit.0 long, c.requires.indices_fit.1)
 
 pub layers_root-top-requires : goal.layers_root-top-requires
 layers_root-top-requires c =
-    let r = ruled_row c.args.row in
+    let r = ruled_row c.args.set.row in
     rw (c.kit_of-kit.ensures, c.forest_bytes.ensures)
-    (stack r c.requires.ready.0 _ (rest_long r c.args.seal.now c.requires.ready.0 c.requires.ready.1))
+    (stack r c.args.set.ready _ (rest_long r c.args.seal.now c.args.set.ready c.requires.seal_len))
 
 pub overflow_add-result : goal.overflow_add-result
 overflow_add-result c =
     let a = c.args in
-    let r = ruled_row a.row in
+    let r = ruled_row a.set.row in
     let e = c.kit_of-kit.ensures in
     let f = c.forest_bytes.ensures in
     record {
-      fits = few_calls r (family_for r) a.seed.now a.seal.now c.requires.ready.0 c.requires.ready.1 a.indices.now
+      fits = few_calls r (family_for r) a.seed.now a.seal.now c.args.set.ready c.requires.seal_len a.indices.now
           c.requires.indices_fit.0 _ _ _ _ _ (rw (e, f) at c.forest_root-low.ensures.counted)
           (rw (e, f) at c.layers_root-top.ensures.counted);
     }
@@ -35,7 +35,7 @@ overflow_add-result c =
 pub returns : goal.returns
 returns c =
     let a = c.args in
-    let r = ruled_row a.row in
+    let r = ruled_row a.set.row in
     let p = at a.pointed a.indices.now in
     let e = rw (c.kit_of-kit.ensures, c.forest_bytes.ensures) at c.forest_root-low.ensures in
     let g = rw (c.kit_of-kit.ensures, c.forest_bytes.ensures) at c.layers_root-top.ensures in

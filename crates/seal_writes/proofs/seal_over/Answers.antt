@@ -7,5 +7,5 @@ use Rattle.seal_writes.proofs.seal_over.Goals as goal
 
 pub written_in-requires-clause-aim_fits : goal.written_in-requires-clause-aim_fits
 written_in-requires-clause-aim_fits c =
-    let q = in_key (ruled_row c.args.row) c.requires.0.legal _ c.randomized_aim-pointed.ensures.aimed in
+    let q = in_key (ruled_row c.args.set.row) c.args.set.ready.legal _ c.randomized_aim-pointed.ensures.aimed in
     (q.indices_long, q.indices_below, q.leaf_lt)

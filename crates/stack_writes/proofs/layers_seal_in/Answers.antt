@@ -9,7 +9,7 @@ use lib.ListN.{length, take}
 use Rattle.std.proofs.lemmas.Grind.{common_steps}
 use Rattle.std.proofs.lemmas.Slice.{take-put_mid}
 use Rattle.lists.proofs.Filling.{rest_written}
-use Rattle.calls.specs.Hashes.{hashes_of}
+use Rattle.calls.specs.Hashes.{ruled_hashes}
 use Rattle.stack_writes.proofs.StackLaws.{layers_turn, layers_end}
 use Rattle.stack_writes.proofs.layers_seal_in.Goals as goal
 
@@ -26,8 +26,8 @@ loop-j-preserved c =
     let leaves : 0 < a.size = omega (arith, l.invariant.0) in (
       mod-lt l.t leaves,
       rw (take-put_mid at _ l.out ys _ next room)
-          (layers_turn (hashes_of a.kit a.seed.now) a.hp a.sk.now (a.d - 1) l.j l.t l.k a.size
-          (take a.kit.n l.v) (take at l.out) ys (take a.kit.n up.result) c.loop-j-test.true
+          (layers_turn (ruled_hashes a.holder.now.hashes) a.hp a.holder.now.secret.now (a.d - 1) l.j l.t l.k a.size
+          (take a.holder.now.hashes.kit.n l.v) (take at l.out) ys (take a.holder.now.hashes.kit.n up.result) c.loop-j-test.true
           c.requires.0.leaves up.ensures.out_after up.ensures.result_value l.invariant.1),
     )
 
@@ -40,5 +40,5 @@ returns c =
     let ys = c.layer_seal_in.new.out in
     let ends : l.j ≡ top = omega arith in
     rest_written at l.out ys
-    ∙ layers_end (hashes_of a.kit a.seed.now) a.hp a.sk.now top l.t l.k (take a.kit.n l.v) (take at l.out) ys
+    ∙ layers_end (ruled_hashes a.holder.now.hashes) a.hp a.holder.now.secret.now top l.t l.k (take a.holder.now.hashes.kit.n l.v) (take at l.out) ys
     c.layer_seal_in.ensures (rw ends at l.invariant.1)

@@ -6,12 +6,12 @@ use mathlib.Core.List.{◌++◌}
 use Prim.Native.Nat.{◌-◌, ◌*◌, ◌<◌}
 use lib.ListN.{take}
 use Rattle.rules.specs.Layers.{layers_seal}
-use Rattle.calls.specs.Hashes.{hashes_of}
+use Rattle.calls.specs.Hashes.{ruled_hashes}
 use Rattle.stack_writes.proofs.layers_seal_in.Given as goal
 
 abbrev pub invariant-loop-j : goal.invariant-loop-j
 invariant-loop-j l =
     (l.k < l.size)
-    × (take (l.j * l.step) l.out ++ (layers_seal (hashes_of l.kit l.seed) l.hp l.sk (l.top - l.j) l.j l.t l.k
+    × (take (l.j * l.step) l.out ++ (layers_seal (ruled_hashes l.holder.hashes) l.hp l.holder.secret.now (l.top - l.j) l.j l.t l.k
     (take l.n l.v)).result
-    ≡ (layers_seal (hashes_of l.kit l.seed) l.hp l.sk l.top 0 l.tree l.i (take l.n l.initial.v)).result)
+    ≡ (layers_seal (ruled_hashes l.holder.hashes) l.hp l.holder.secret.now l.top 0 l.fn.pointed.tree l.fn.pointed.leaf (take l.n l.initial.v)).result)

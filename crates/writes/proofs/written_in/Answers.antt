@@ -8,7 +8,6 @@ use Rattle.writes.proofs.written_in.Goals as goal
 
 pub layers_in-requires : goal.layers_in-requires
 layers_in-requires c =
-    let ready = c.requires.ready in
-    let size = seal_size (ruled_row c.args.row) ready.0 in
+    let size = seal_size (ruled_row c.args.set.row) c.args.set.ready in
     let back = c.split_at_mut-forest.ensures.back_len in
-    (ready.0, omega (arith, size, back, c.forest_bytes.ensures), c.requires.aim_fits.2)
+    (omega (arith, size, back, c.forest_bytes.ensures), c.requires.aim_fits.2)

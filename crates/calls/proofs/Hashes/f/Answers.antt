@@ -1,7 +1,7 @@
 -- `f` is F, by `call_value`.
 -- Assumes nothing.
 use Rattle.calls.specs.Hashes.{family}
-use Rattle.calls.proofs.f.Goals as goal
+use Rattle.calls.proofs.Hashes.f.Goals as goal
 
 pub returns : goal.returns
 unfolding family

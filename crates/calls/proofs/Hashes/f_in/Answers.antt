@@ -2,7 +2,7 @@
 -- Assumes nothing.
 use Rattle.calls.specs.Hashes.{family}
 use Rattle.shake.proofs.Laws.{shaken, feed_append}
-use Rattle.calls.proofs.f_in.Goals as goal
+use Rattle.calls.proofs.Hashes.f_in.Goals as goal
 
 pub returns : goal.returns
 unfolding family

@@ -1,7 +1,7 @@
 -- `t` is T, by `call_value`.
 -- Assumes nothing.
 use Rattle.calls.specs.Hashes.{family}
-use Rattle.calls.proofs.t.Goals as goal
+use Rattle.calls.proofs.Hashes.t.Goals as goal
 
 pub returns : goal.returns
 unfolding family
