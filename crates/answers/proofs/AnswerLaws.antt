@@ -2,14 +2,24 @@
 -- Assumes nothing.
 use mathlib.Core.Path.{◌≡◌, refl, sym, ap, ap₂, ◌∙◌}
 use mathlib.Core.Logic.{◌≢◌}
-use mathlib.Core.Bool.{Bool, true, false, cond}
 use mathlib.Core.Option.{Option, some}
 use Prim.Native.Nat.{ℕ, zero, suc}
+use native.Mathlib.Nat.{suc-ne-zero}
 use Rattle.rules.specs.Sets.{Row}
-use Rattle.answers.specs.Answers.{number, settled}
-use Rattle.answers.specs.declared.Answer.{Answer}
-use Rattle.answers.specs.declared.Answer.TheVariants.{Done, UnknownSet, InputLength, MessageLength, SealLength}
-use Rattle.answers.specs.declared.Answer.TheVariants.{RootDiffers, UnknownPart}
+use Rattle.std.specs.Prelude.{Ok, Err}
+use Rattle.answers.specs.Answers.{Answer, number, settled}
+use Rattle.answers.specs.declared.Refusal.{Refusal}
+use Rattle.answers.specs.declared.Refusal.TheVariants.{UnknownSet, InputLength, MessageLength, SealLength}
+use Rattle.answers.specs.declared.Refusal.TheVariants.{RootDiffers, UnknownPart}
+
+-- A refusal has none of the numbers 0.
+refused : (refusal : Refusal) → number (Err refusal) ≢ 0
+refused UnknownSet = suc-ne-zero _
+refused InputLength = suc-ne-zero _
+refused MessageLength = suc-ne-zero _
+refused SealLength = suc-ne-zero _
+refused RootDiffers = suc-ne-zero _
+refused UnknownPart = suc-ne-zero _
 
 -- A buffer holds what is made where the answer is 0, and else what it held.
 pub settled_made : {A : Type 0} (n : ℕ) (row : Option Row) (made : Row → A) (was : A) (r : Row)
@@ -23,32 +33,30 @@ unfolding settled
 settled_kept zero row made was refused = absurd (refused refl)
 settled_kept (suc n) row made was refused = refl
 
--- By the test that passed or failed.
-pub later_told : (p : Bool) (x y : ℕ) → p ≡ true → x ≡ cond p x y
-later_told p x y e = rw e
-
-pub refusal_told : (p : Bool) (x y : ℕ) → p ≡ false → y ≡ cond p x y
-refusal_told p x y e = rw e
+-- With a refusal what it held.
+pub refusal_keeps : {A : Type 0} (refusal : Refusal) {n : ℕ} (row : Option Row) (made : Row → A) (was : A)
+    → number (Err refusal) ≡ n → was ≡ settled n row made was
+refusal_keeps refusal row made was e = sym (settled_kept _ row made was (λ z. refused refusal (e ∙ z)))
 
 -- The answer of a number.
 answer_of : ℕ → Answer
-answer_of zero = Done
-answer_of (suc zero) = UnknownSet
-answer_of (suc (suc zero)) = InputLength
-answer_of (suc (suc (suc zero))) = MessageLength
-answer_of (suc (suc (suc (suc zero)))) = SealLength
-answer_of (suc (suc (suc (suc (suc zero))))) = RootDiffers
-answer_of (suc (suc (suc (suc (suc (suc k)))))) = UnknownPart
+answer_of zero = Ok tt
+answer_of (suc zero) = Err UnknownSet
+answer_of (suc (suc zero)) = Err InputLength
+answer_of (suc (suc (suc zero))) = Err MessageLength
+answer_of (suc (suc (suc (suc zero)))) = Err SealLength
+answer_of (suc (suc (suc (suc (suc zero))))) = Err RootDiffers
+answer_of (suc (suc (suc (suc (suc (suc k)))))) = Err UnknownPart
 
 back : (a : Answer) → answer_of (number a) ≡ a
 unfolding answer_of
-back Done = refl
-back UnknownSet = refl
-back InputLength = refl
-back MessageLength = refl
-back SealLength = refl
-back RootDiffers = refl
-back UnknownPart = refl
+back (Ok x) = refl
+back (Err UnknownSet) = refl
+back (Err InputLength) = refl
+back (Err MessageLength) = refl
+back (Err SealLength) = refl
+back (Err RootDiffers) = refl
+back (Err UnknownPart) = refl
 
 -- Answers of one number are one answer.
 pub number_injective : (a b : Answer) → number a ≡ number b → a ≡ b

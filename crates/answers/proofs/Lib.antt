@@ -1,4 +1,3 @@
-pub mod StringLaws
 pub mod TestLaws
 pub mod LineLaws
 pub mod AnswerLaws

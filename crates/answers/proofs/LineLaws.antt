@@ -1,32 +1,35 @@
 -- Lines one by one: a line more before the others, lines before others, and when none applies; by cases on whether the
 -- first test passes.
 -- Assumes nothing.
-use mathlib.Core.Path.{◌≡◌, refl, sym, ap₂, ◌∙◌}
+use mathlib.Core.Path.{◌≡◌, refl, sym, ◌∙◌}
 use mathlib.Core.Logic.{◌↔◌, ◌≢◌}
 use mathlib.Core.Bool.{Bool, true, false, not, cond, false≢true, ◌&&◌}
 use mathlib.Core.List.{List, [], ◌∷◌, ◌++◌}
+use mathlib.Core.Option.{Option, none}
 use Prim.Native.Nat.{ℕ}
+use native.Mathlib.Omega.{arith}
 use lib.Dec.{eqb}
-use Rattle.answers.specs.Tests.{Test, passes, Holds}
+use Rattle.std.proofs.lemmas.Bool.Decides.{Decides-eqb, Decides-not}
+use Rattle.std.specs.Prelude as code
+use Rattle.std.specs.Prelude.{None, Err, ok_or}
+use Rattle.rules.specs.Sets.{Row}
+use Rattle.answers.specs.Answers.{number}
+use Rattle.answers.specs.declared.Refusal.{Refusal}
+use Rattle.answers.specs.declared.Refusal.TheVariants.{UnknownSet}
+use Rattle.answers.specs.Tests.{known, passes, Holds}
 use Rattle.answers.specs.Lines.{Line, line, first, NoneApplies, lacks}
-use Rattle.answers.proofs.TestLaws.{eqb_tells, not_tells, tells}
+use Rattle.answers.proofs.TestLaws.{tells}
 
--- ---- For code: one line more before the others
+-- ---- For code
 
-pub no_line : 0 ≡ first []
+-- The refusal of a set without a row is the first line's.
+pub unknown_given : {A : Type 0} {found : code.Option A} {refusal : Refusal} {row : Option Row} (ls : List Line)
+    → Err refusal ≡ ok_or found UnknownSet → found ≡ None → row ≡ none
+    → number (Err refusal) ≡ first (line 1 (known row) ∷ ls)
 unfolding first
-no_line = refl
-
-pub one_line : (n : ℕ) (t : Test) (ls : List Line) {p : Bool} {r later : ℕ}
-    → r ≡ cond p later n → p ≡ passes t → later ≡ first ls → r ≡ first (line n t ∷ ls)
-unfolding first
-one_line n t ls e f g = e ∙ ap₂ (λ (b : Bool) (x : ℕ). cond b x n) f g
-
--- A line whose test is known to pass.
-pub passed_line : (n : ℕ) (t : Test) (ls : List Line) {r : ℕ} → passes t ≡ true → r ≡ first ls
-    → r ≡ first (line n t ∷ ls)
-unfolding first
-passed_line n t ls e g = g ∙ ap₂ (λ (b : Bool) (x : ℕ). cond b x n) (sym e) refl
+unknown_given {refusal = refusal} ls value missing e =
+    let is : refusal ≡ UnknownSet = grind arith in
+    rw (e, is) refl
 
 -- ---- Lines before others
 
@@ -41,7 +44,7 @@ unfolding first
 not_given k [] e other z = other (sym z)
 not_given k (l ∷ ls) e other z =
     let two = both (not (eqb l.number k)) (lacks k ls) e in
-    by_test (passes l.test) ((not_tells _ _ (eqb_tells l.number k)).told two.0)
+    by_test (passes l.test) ((Decides-not _ (Decides-eqb l.number k)).0 two.0)
     (not_given k ls two.1 other) z
   where
     by_test : (b : Bool) → l.number ≢ k → first ls ≢ k → cond b (first ls) l.number ≢ k
@@ -65,7 +68,7 @@ unfolding first
 given_late [] ys e z = refl
 given_late (x ∷ xs) ys e z =
     let two = both (not (eqb x.number 0)) (lacks 0 xs) e in
-    by_test (passes x.test) ((not_tells _ _ (eqb_tells x.number 0)).told two.0) (given_late xs ys two.1) z
+    by_test (passes x.test) ((Decides-not _ (Decides-eqb x.number 0)).0 two.0) (given_late xs ys two.1) z
   where
     by_test : (b : Bool) → x.number ≢ 0 → (first xs ≡ 0 → first (xs ++ ys) ≡ first ys)
         → cond b (first xs) x.number ≡ 0 → cond b (first (xs ++ ys)) x.number ≡ first ys
@@ -80,10 +83,14 @@ unfolding first
 zero_given [] e = (λ z. tt, λ u. refl)
 zero_given (l ∷ ls) e =
     let two = both (not (eqb l.number 0)) (lacks 0 ls) e in
-    by_test (passes l.test) refl ((not_tells _ _ (eqb_tells l.number 0)).told two.0) (zero_given ls two.1)
+    by_test (passes l.test) refl ((Decides-not _ (Decides-eqb l.number 0)).0 two.0) (zero_given ls two.1)
   where
     by_test : (b : Bool) → passes l.test ≡ b → l.number ≢ 0 → (first ls ≡ 0) ↔ NoneApplies ls
         → (cond b (first ls) l.number ≡ 0) ↔ (Holds l.test × NoneApplies ls)
-    by_test true p here rest = (λ z. ((tells l.test).told p, rest.0 z), λ h. rest.1 h.1)
+    by_test true p here rest = (λ z. ((tells l.test).0 p, rest.0 z), λ h. rest.1 h.1)
     by_test false p here rest =
-        (λ z. absurd (here z), λ h. absurd (false≢true (sym p ∙ (tells l.test).tell h.0)))
+        (λ z. absurd (here z), λ h. absurd (false≢true (sym p ∙ (tells l.test).1 h.0)))
+
+-- In order.
+pub none_applies : (ls : List Line) → lacks 0 ls ≡ true → 0 ≡ first ls → NoneApplies ls
+none_applies ls named z = (zero_given ls named).0 (sym z)

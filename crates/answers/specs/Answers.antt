@@ -1,20 +1,24 @@
 -- The answers with the paper's numbers, and what an answer leaves behind.
 -- Assumes nothing.
 use Rattle.std.proofs.Math.Option.{Option, some, none}
-use Rattle.std.specs.Prelude.{ℕ, zero, suc}
+use Rattle.std.specs.Prelude.{ℕ, zero, suc, Result, Ok, Err, ⊤}
 use Rattle.rules.specs.Sets.{Row}
-use Rattle.answers.specs.declared.Answer.{Answer}
-use Rattle.answers.specs.declared.Answer.TheVariants.{Done, UnknownSet, InputLength, MessageLength, SealLength}
-use Rattle.answers.specs.declared.Answer.TheVariants.{RootDiffers, UnknownPart}
+use Rattle.answers.specs.declared.Refusal.{Refusal}
+use Rattle.answers.specs.declared.Refusal.TheVariants.{UnknownSet, InputLength, MessageLength, SealLength}
+use Rattle.answers.specs.declared.Refusal.TheVariants.{RootDiffers, UnknownPart}
+
+-- Done, or a refusal.
+abbrev pub Answer : Type 0
+Answer = Result ⊤ Refusal
 
 abbrev pub number : Answer → ℕ
-number Done = 0
-number UnknownSet = 1
-number InputLength = 2
-number MessageLength = 3
-number SealLength = 4
-number RootDiffers = 5
-number UnknownPart = 6
+number (Ok _) = 0
+number (Err UnknownSet) = 1
+number (Err InputLength) = 2
+number (Err MessageLength) = 3
+number (Err SealLength) = 4
+number (Err RootDiffers) = 5
+number (Err UnknownPart) = 6
 
 -- The longest message.
 abbrev pub message_limit : ℕ

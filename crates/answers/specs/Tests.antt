@@ -1,6 +1,6 @@
 -- The tests that lines are made of: of each, whether it passes, what holds then, and what holds where it fails.
 -- Assumes nothing.
-use Rattle.std.specs.Prelude.{◌≡◌, ◌≢◌, ◌⊎◌, Bool, true, false, ◌&&◌, ◌||◌, [], ◌∷◌, ℕ, ◌≤◌, ◌<◌, eqb, leb}
+use Rattle.std.specs.Prelude.{◌≡◌, ◌≢◌, ◌⊎◌, Bool, true, false, ◌||◌, ℕ, ◌≤◌, ◌<◌, eqb, leb, bytes_eq}
 use Rattle.std.proofs.Math.Option.{Option, some, none}
 use Rattle.rules.specs.Places.{Bytes}
 use Rattle.rules.specs.Sets.{Row}
@@ -15,17 +15,10 @@ pub data Test : Type 0 where
   known : (row : Option Row) → Test
   under : (row : Option Row) (test : Row → Test) → Test
 
--- Whether two strings are the same.
-unfoldable pub same : Bytes → Bytes → Bool
-same [] [] = true
-same [] (y ∷ ys) = false
-same (x ∷ xs) [] = false
-same (x ∷ xs) (y ∷ ys) = eqb x y && same xs ys
-
 abbrev pub passes : Test → Bool
 passes (equal x y) = eqb x y
 passes (within x limit) = leb x limit
-passes (alike x y) = same x y
+passes (alike x y) = bytes_eq x y
 passes (either s t) = passes s || passes t
 passes (known none) = false
 passes (known (some r)) = true

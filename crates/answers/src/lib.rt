@@ -1,14 +1,12 @@
 // The answers, and the tests that come before any work.
 #![tactic(auto)]
 
-ghost use Rattle.std.specs.Prelude.{◌≡◌, cond, ◌||◌};
+ghost use Rattle.std.specs.Prelude.{◌≡◌, Ok, Err, cond};
 ghost use Rattle.answers.specs.Answers.{number};
-ghost use Rattle.answers.specs.Tests.{same};
 
-// The paper's answers 0 to 6.
-#[derive(Clone, Copy)]
-pub enum Answer {
-    Done,
+// The paper's refusals 1 to 6.
+#[derive(Clone, Copy, Debug, PartialEq, Eq)]
+pub enum Refusal {
     UnknownSet,
     InputLength,
     MessageLength,
@@ -17,48 +15,27 @@ pub enum Answer {
     UnknownPart,
 }
 
+// The paper's answers 0 to 6: done, or a refusal.
+pub type Answer = Result<(), Refusal>;
+
 // The paper's number of an answer.
 pub fn number_of(answer: Answer) -> u32
     ensures { result ≡ number answer }
 {
     match answer {
-        Answer::Done => 0,
-        Answer::UnknownSet => 1,
-        Answer::InputLength => 2,
-        Answer::MessageLength => 3,
-        Answer::SealLength => 4,
-        Answer::RootDiffers => 5,
-        Answer::UnknownPart => 6,
+        Ok(()) => 0,
+        Err(Refusal::UnknownSet) => 1,
+        Err(Refusal::InputLength) => 2,
+        Err(Refusal::MessageLength) => 3,
+        Err(Refusal::SealLength) => 4,
+        Err(Refusal::RootDiffers) => 5,
+        Err(Refusal::UnknownPart) => 6,
     }
 }
 
-// A line: the refusal where its test fails, and else what the later lines say.
-pub fn unless(passed: bool, refusal: Answer, later: Answer) -> Answer
-    ensures { number result ≡ cond passed (number later) (number refusal) }
+// A line: its refusal where its test fails.
+pub fn demand(passed: bool, refusal: Refusal) -> Answer
+    ensures { result ≡ cond passed (Ok tt) (Err refusal) }
 {
-    if passed { later } else { refusal }
-}
-
-// One of two tests passes.
-pub fn either(a: bool, b: bool) -> bool
-    ensures { result ≡ (a || b) }
-{
-    if a { true } else { b }
-}
-
-// Whether two strings are the same.
-pub fn same(a: &[u8], b: &[u8]) -> bool
-    ensures { result ≡ same a.now b.now }
-{
-    if a.len() != b.len() {
-        return false;
-    }
-    let mut i = 0;
-    while i < a.len() {
-        if a[i] != b[i] {
-            return false;
-        }
-        i += 1;
-    }
-    true
+    if passed { Ok(()) } else { Err(refusal) }
 }

@@ -6,10 +6,9 @@ use Rattle.rules.specs.Places.{Bytes}
 use Rattle.rules.specs.Sets.{Row}
 use Rattle.rules.specs.Keys.{public_key, secret_key}
 use Rattle.calls.specs.Hashes.{family_for}
-use Rattle.answers.specs.Answers.{number, settled}
+use Rattle.answers.specs.Answers.{Answer, number, settled}
 use Rattle.answers.specs.Tests.{equal, known, under}
 use Rattle.answers.specs.Lines.{Line, line, first}
-use Rattle.answers.specs.declared.Answer.{Answer}
 
 -- Under the row of the set, if it has one: how many bytes three seeds and both buffers have.
 abbrev pub keys_lines : Option Row → (sk_seed sk_prf pk_seed public secret : ℕ) → List Line

@@ -8,7 +8,7 @@ ghost use Rattle.std.specs.Prelude.{◌≡◌};
 ghost use Rattle.rules.specs.Sets.{row_of};
 ghost use Rattle.rows.specs.Rows.{ruled};
 
-#[derive(Clone, Copy)]
+#[derive(Clone, Copy, Debug, PartialEq, Eq)]
 pub struct Row {
     pub number: u32,
     pub n: usize,
@@ -52,19 +52,13 @@ const ROWS: [Row; 2] = [
     },
 ];
 
-#[derive(Clone, Copy)]
-pub enum Found {
-    Is(Row),
-    Unknown,
-}
-
 // The row of a set number.
-pub fn find_row(set: u32) -> Found
+pub fn find_row(set: u32) -> Option<Row>
     ensures { ruled result ≡ row_of set }
 {
     match set {
-        1 => Found::Is(ROWS[0]),
-        2 => Found::Is(ROWS[1]),
-        _ => Found::Unknown,
+        1 => Some(ROWS[0]),
+        2 => Some(ROWS[1]),
+        _ => None,
     }
 }

@@ -1,23 +1,39 @@
--- `make_keys` goes by the row of its set, and without one writes nothing.
+-- `make_keys` refuses where its set has no row or a line applies, and then writes nothing; else it makes the keys.
 -- Assumes nothing.
+use mathlib.Core.Path.{refl}
+use Rattle.std.proofs.Common.{rules}
+use Rattle.std.proofs.lemmas.Result.{err_from_is_err_and}
 use Rattle.rows.proofs.ReadyLaws.{row_of_ready}
 use Rattle.rows.proofs.RowLaws.{row_found, row_missing}
-use Rattle.making.proofs.MakingLaws.{keys_by, keys_unknown}
+use Rattle.answers.proofs.LineLaws.{unknown_given, none_applies}
+use Rattle.making.proofs.MakingLaws.{keys_done, keys_refused}
 use Rattle.making.proofs.make_keys.Goals as goal
 
-pub make_keys_under-requires : goal.make_keys_under-requires
-make_keys_under-requires c =
-    row_of_ready c.args.set _
-    (row_found c.in-Is.is
-    c.find_row-found.ensures)
+pub returns-in_err-row : goal.returns-in_err-row
+returns-in_err-row c =
+    let missing = c.in_err-row.ensures in
+    let unknown = row_missing missing.ok_part c.find_row.ensures in
+    let result = err_from_is_err_and c.from_residual.result c.from_residual.ensures.1 in
+    rw (result.1, result.2) (keys_refused _ (unknown_given _ missing.value missing.ok_part unknown))
 
-pub returns-in-Is : goal.returns-in-Is
-returns-in-Is c =
-    keys_by (row_found c.in-Is.is c.find_row-found.ensures)
-    c.make_keys_under.ensures
+pub returns-in_err-keys_answer : goal.returns-in_err-keys_answer
+returns-in_err-keys_answer c =
+    let known = row_found c.in_ok-row.ensures.ok_part c.find_row.ensures in
+    let refused = keys_refused _ c.in_err-keys_answer.ensures in
+    search (rules, known, refused)
 
-pub returns-in-Unknown : goal.returns-in-Unknown
-returns-in-Unknown c =
-    let a = c.args in
-    keys_by (row_missing c.in-Unknown.is c.find_row-found.ensures)
-    (keys_unknown a.secret_seed.now a.prf_seed.now a.public_seed.now a.public.now a.secret.now)
+pub keys_in-requires-clause-ready : goal.keys_in-requires-clause-ready
+keys_in-requires-clause-ready c =
+    let known = row_found c.in_ok-row.ensures.ok_part c.find_row.ensures in
+    let (_, (sk, (prf, (pk, _)))) = none_applies _ refl c.in_ok-keys_answer.ensures in
+    (row_of_ready _ _ known, sk _ refl, prf _ refl, pk _ refl)
+
+pub keys_in-requires-clause-keys_len : goal.keys_in-requires-clause-keys_len
+keys_in-requires-clause-keys_len c =
+    let (_, (_, (_, (_, (public, (secret, _)))))) = none_applies _ refl c.in_ok-keys_answer.ensures in
+    (public _ refl, secret _ refl)
+
+pub returns : goal.returns
+returns c =
+    let known = row_found c.in_ok-row.ensures.ok_part c.find_row.ensures in
+    keys_done _ known c.in_ok-keys_answer.ensures c.keys_in.ensures.public_after c.keys_in.ensures.secret_after
