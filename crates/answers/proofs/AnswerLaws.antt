@@ -12,8 +12,8 @@ use Rattle.answers.specs.declared.Refusal.{Refusal}
 use Rattle.answers.specs.declared.Refusal.TheVariants.{UnknownSet, InputLength, MessageLength, SealLength}
 use Rattle.answers.specs.declared.Refusal.TheVariants.{RootDiffers, UnknownPart}
 
--- A refusal has none of the numbers 0.
-refused : (refusal : Refusal) → number (Err refusal) ≢ 0
+-- The number of a refusal is not 0.
+pub refused : (refusal : Refusal) → number (Err refusal) ≢ 0
 refused UnknownSet = suc-ne-zero _
 refused InputLength = suc-ne-zero _
 refused MessageLength = suc-ne-zero _

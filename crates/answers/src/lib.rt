@@ -33,6 +33,9 @@ pub fn number_of(answer: Answer) -> u32
     }
 }
 
+// The longest message.
+pub const MESSAGE_LIMIT: usize = 65536;
+
 // A line: its refusal where its test fails.
 pub fn demand(passed: bool, refusal: Refusal) -> Answer
     ensures { result ≡ cond passed (Ok tt) (Err refusal) }

@@ -1,6 +1,6 @@
 -- Checking: its lines, its answer, and how many F calls it made.
 -- Assumes nothing.
-use Rattle.std.specs.Prelude.{◌≡◌, cond, ◌||◌, List, [], ◌∷◌, ◌++◌, ℕ, eqb, length}
+use Rattle.std.specs.Prelude.{◌≡◌, cond, ◌||◌, List, [], ◌∷◌, ◌++◌, ℕ, eqb, length, Result, Ok, Err}
 use Rattle.std.proofs.Math.Option.{Option, some, none}
 use Rattle.rules.specs.Places.{Bytes}
 use Rattle.rules.specs.Calls.{F, of, Run}
@@ -11,6 +11,7 @@ use Rattle.rules.specs.Check.{checked_root}
 use Rattle.counts.specs.Counts.{count}
 use Rattle.calls.specs.Hashes.{family_for}
 use Rattle.answers.specs.Answers.{number, message_limit}
+use Rattle.answers.specs.declared.Refusal.{Refusal}
 use Rattle.answers.specs.Tests.{equal, within, alike, known, under}
 use Rattle.answers.specs.Lines.{Line, line, first}
 use Rattle.checking.specs.declared.Verdict.{Verdict}
@@ -51,3 +52,8 @@ module _ (row : Option Row) (public message seal : Bytes) where
   pub record Checked (verdict : Verdict) : Type 0 where
     pub answered : number verdict.answer ≡ check_answer
     pub counted : verdict.calls ≡ check_calls
+
+-- The verdict where a line before the walk may refuse: then no F call was made.
+abbrev pub verdict : Result Verdict Refusal → Verdict
+verdict (Ok v) = v
+verdict (Err refusal) = record { answer = Err refusal; calls = 0 }

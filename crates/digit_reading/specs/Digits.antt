@@ -5,10 +5,9 @@ use Rattle.std.proofs.Math.Option.{Option}
 use Rattle.rules.specs.Places.{Bytes}
 use Rattle.rules.specs.Sets.{Row}
 use Rattle.rules.specs.Chains.{chains, chain_digits}
-use Rattle.answers.specs.Answers.{number, settled}
+use Rattle.answers.specs.Answers.{Answer, number, settled}
 use Rattle.answers.specs.Tests.{equal, known, under}
 use Rattle.answers.specs.Lines.{Line, line, first}
-use Rattle.answers.specs.declared.Answer.{Answer}
 
 -- Under the row of the set, if it has one: how many bytes a value has, and how many numbers the list.
 abbrev pub digits_lines : Option Row → (value digits : ℕ) → List Line

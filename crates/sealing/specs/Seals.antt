@@ -6,10 +6,9 @@ use Rattle.rules.specs.Places.{Bytes}
 use Rattle.rules.specs.Sets.{Row}
 use Rattle.rules.specs.Seal.{plain, frame, seal_of}
 use Rattle.calls.specs.Hashes.{family_for}
-use Rattle.answers.specs.Answers.{number, message_limit, settled}
+use Rattle.answers.specs.Answers.{Answer, number, message_limit, settled}
 use Rattle.answers.specs.Tests.{equal, within, either, known, under}
 use Rattle.answers.specs.Lines.{Line, line, first}
-use Rattle.answers.specs.declared.Answer.{Answer}
 
 -- Under the row of the set, if it has one: how many bytes a secret key, a message, a randomizer input and the buffer
 -- have. A randomizer input has none, or n.

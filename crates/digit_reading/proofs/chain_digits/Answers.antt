@@ -1,24 +1,39 @@
--- `chain_digits` goes by the row of its set, and without one writes nothing.
+-- `chain_digits` refuses where its set has no row or a line applies, and then writes nothing; else it writes the digits.
 -- Assumes nothing.
+use mathlib.Core.Path.{refl}
+use Rattle.std.proofs.Common.{rules}
+use Rattle.std.proofs.lemmas.Result.{err_from_is_err_and}
+use Rattle.rules.proofs.SetLaws.{checksum_fits}
 use Rattle.rows.proofs.ReadyLaws.{row_of_ready}
 use Rattle.rows.proofs.RowLaws.{row_found, row_missing}
-use Rattle.digit_reading.proofs.DigitsLaws.{digits_by, digits_unknown}
+use Rattle.answers.proofs.LineLaws.{unknown_given, none_applies}
+use Rattle.digit_reading.proofs.DigitsLaws.{digits_done, digits_refused}
 use Rattle.digit_reading.proofs.chain_digits.Goals as goal
 
-pub chain_digits_under-requires : goal.chain_digits_under-requires
-chain_digits_under-requires c =
-    row_of_ready c.args.set _
-    (row_found c.in-Is.is c.find_row-found.ensures)
+pub returns-in_err-row : goal.returns-in_err-row
+returns-in_err-row c =
+    let missing = c.in_err-row.ensures in
+    let unknown = row_missing missing.ok_part c.find_row.ensures in
+    let result = err_from_is_err_and c.from_residual.result c.from_residual.ensures.1 in
+    rw (result.1, result.2) (digits_refused _ (unknown_given _ missing.value missing.ok_part unknown))
 
-pub returns-in-Is : goal.returns-in-Is
-returns-in-Is c =
-    let a = c.args in
-    digits_by (row_found c.in-Is.is
-    c.find_row-found.ensures)
-    c.chain_digits_under.ensures
+pub digits_answer-requires : goal.digits_answer-requires
+digits_answer-requires c = row_of_ready _ _ (row_found c.in_ok-row.ensures.ok_part c.find_row.ensures)
 
-pub returns-in-Unknown : goal.returns-in-Unknown
-returns-in-Unknown c =
-    let a = c.args in
-    digits_by (row_missing c.in-Unknown.is c.find_row-found.ensures)
-    (digits_unknown a.value.now a.digits.now)
+pub returns-in_err-digits_answer : goal.returns-in_err-digits_answer
+returns-in_err-digits_answer c =
+    let known = row_found c.in_ok-row.ensures.ok_part c.find_row.ensures in
+    let refused = digits_refused _ c.in_err-digits_answer.ensures in
+    search (rules, known, refused)
+
+pub chain_digits-requires : goal.chain_digits-requires
+chain_digits-requires c =
+    let ready = row_of_ready _ _ (row_found c.in_ok-row.ensures.ok_part c.find_row.ensures) in
+    let (_, (value, (digits, _))) = none_applies _ refl c.in_ok-digits_answer.ensures in
+    (rw (value _ refl) (checksum_fits _ ready.legal), rw (value _ refl) (digits _ refl))
+
+pub returns : goal.returns
+returns c =
+    let known = row_found c.in_ok-row.ensures.ok_part c.find_row.ensures in
+    let (_, (value, _)) = none_applies _ refl c.in_ok-digits_answer.ensures in
+    digits_done _ known c.in_ok-digits_answer.ensures (value _ refl) c.chain_digits.ensures
