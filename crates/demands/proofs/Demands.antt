@@ -29,7 +29,7 @@ use Rattle.rules.proofs.SetLaws.{row_of_legal}
 use Rattle.labels.proofs.AddressLaws.{row_of_in_words}
 use Rattle.labels.proofs.OwnOnce.{own_once}
 use Rattle.calls.specs.Hashes.{family_for}
-use Rattle.answers.specs.Answers.{number}
+use Rattle.answers.specs.Answers.{Answer, number}
 use Rattle.answers.specs.Tests.{Under}
 use Rattle.answers.specs.Lines.{Line, first, NoneApplies}
 use Rattle.making.specs.Keys.{keys_lines, KeysMade}
@@ -38,7 +38,6 @@ use Rattle.checking.specs.Checks.{check_lines, check_answer, check_calls, Checke
 use Rattle.part_reading.specs.Parts.{part_lines, part_answer, part_given, start_given, length_given}
 use Rattle.digit_reading.specs.Digits.{digits_lines, DigitsRead}
 use Rattle.demands.specs.Table.{Given, Applies, applies, none_before, ordered, Unlisted, Fitting}
-use Rattle.answers.specs.declared.Answer.{Answer}
 use Rattle.checking.specs.declared.Verdict.{Verdict}
 use Rattle.part_reading.specs.declared.Extent.{Extent}
 use Rattle.answers.proofs.TestLaws.{at_row}

@@ -8,45 +8,38 @@ use mathlib.Core.List.{List, [], ◌∷◌}
 use Prim.Native.Nat.{ℕ, ◌<◌}
 use native.Mathlib.Nat.{lt_of_not-le, not-le_of_lt}
 use native.Mathlib.Omega.{arith}
-use lib.Dec.{eqb, ltb, ltb→lt, lt→ltb}
+use lib.Dec.{eqb, ltb}
+use Rattle.std.specs.Prelude.{Decides}
+use Rattle.std.proofs.lemmas.Bool.Decides.{Decides-eqb, Decides-ltb, Decides-not, Decides-and, Decides-or}
 use Rattle.answers.specs.Tests.{passes, Holds, Fails}
 use Rattle.answers.specs.Lines.{Line, first, NoneApplies, lacks}
-use Rattle.answers.proofs.TestLaws.{Tells, holds, test, eqb_tells, not_tells, and_tells, or_tells, tells, denies}
+use Rattle.answers.proofs.TestLaws.{tells, denies}
 use Rattle.answers.proofs.LineLaws.{both, zero_given}
 use Rattle.demands.specs.Table.{Before, Given, none_applies, first_applies, Applies, applies, First, before}
 use Rattle.demands.specs.Table.{none_before, ordered}
 
 -- ---- What the truth values tell
 
-ltb_tells : (m n : ℕ) → Tells (ltb m n) (m < n)
-ltb_tells m n = record {
-  told = λ e. ltb→lt m n (test (ltb m n) e);
-  tell = λ h. holds (ltb m n) (lt→ltb m n h);
-}
-
-before_tells : (k c : ℕ) → Tells (before k c) (Before k c)
+before_tells : (k c : ℕ) → Decides (before k c) (Before k c)
 before_tells k c =
-    and_tells (not (eqb k 5)) (eqb c 5 || ltb k c) (k ≢ 5) ((c ≡ 5) ⊎ (k < c))
-    (not_tells (eqb k 5) (k ≡ 5) (eqb_tells k 5))
-    (or_tells (eqb c 5) (ltb k c) (c ≡ 5) (k < c) (eqb_tells c 5) (ltb_tells k c))
+    Decides-and (not (eqb k 5)) (eqb c 5 || ltb k c) (Decides-not (eqb k 5) (Decides-eqb k 5))
+    (Decides-or (eqb c 5) (ltb k c) (Decides-eqb c 5) (Decides-ltb k c))
 
-applies_tells : (ls : List Line) (k : ℕ) → Tells (applies ls k) (Applies ls k)
+applies_tells : (ls : List Line) (k : ℕ) → Decides (applies ls k) (Applies ls k)
 unfolding applies
-applies_tells [] k = record { told = λ e. absurd (false≢true e); tell = λ z. absurd z }
+applies_tells [] k = (λ e. absurd (false≢true e), λ z. absurd z)
 applies_tells (l ∷ ls) k =
-    or_tells (eqb l.number k && not (passes l.test)) (applies ls k)
-    ((l.number ≡ k) × Fails l.test) (Applies ls k)
-    (and_tells (eqb l.number k) (not (passes l.test)) (l.number ≡ k) (Fails l.test)
-    (eqb_tells l.number k) (denies l.test)) (applies_tells ls k)
+    Decides-or (eqb l.number k && not (passes l.test)) (applies ls k)
+    (Decides-and (eqb l.number k) (not (passes l.test)) (Decides-eqb l.number k) (denies l.test)) (applies_tells ls k)
 
 -- ---- The first line that applies
 
 -- A test fails where it doesn't pass, and what holds where it passes doesn't hold where it fails.
 failed : (l : Line) → passes l.test ≡ false → Fails l.test
-failed l e = (denies l.test).told (subst (λ (b : Bool). not b ≡ true) (sym e) refl)
+failed l e = (denies l.test).0 (subst (λ (b : Bool). not b ≡ true) (sym e) refl)
 
 clear : (l : Line) → passes l.test ≡ true → ¬ Fails l.test
-clear l e f = false≢true (subst (λ (b : Bool). not b ≡ true) e ((denies l.test).tell f))
+clear l e f = false≢true (subst (λ (b : Bool). not b ≡ true) e ((denies l.test).1 f))
 
 -- A number comes not before itself.
 not_itself : (k : ℕ) → ¬ Before k k
@@ -59,7 +52,7 @@ unfolding none_before
 later c [] e k b a = a
 later c (l ∷ ls) e k b (inl here) =
     let two = both (not (before l.number c)) (none_before c ls) e in
-    (not_tells (before l.number c) (Before l.number c) (before_tells l.number c)).told two.0
+    (Decides-not (before l.number c) (before_tells l.number c)).0 two.0
     (subst (λ (x : ℕ). Before x c) (sym here.0) b)
 later c (l ∷ ls) e k b (inr there) =
     later c ls (both (not (before l.number c)) (none_before c ls) e).1 k b there
@@ -93,10 +86,10 @@ one_number : (c e : ℕ) → ¬ Before c e → ¬ Before e c → c ≡ e
 one_number c e p q = by_five (eqb c 5) (eqb e 5) refl refl
   where
     is : (x : ℕ) → eqb x 5 ≡ true → x ≡ 5
-    is x h = (eqb_tells x 5).told h
+    is x h = (Decides-eqb x 5).0 h
 
     other : (x : ℕ) → eqb x 5 ≡ false → x ≢ 5
-    other x h five = false≢true (sym h ∙ (eqb_tells x 5).tell five)
+    other x h five = false≢true (sym h ∙ (Decides-eqb x 5).1 five)
 
     by_five : (a b : Bool) → eqb c 5 ≡ a → eqb e 5 ≡ b → c ≡ e
     by_five true true h g = is c h ∙ sym (is e g)
@@ -143,7 +136,7 @@ answer_computed ls sorted c = (
   where
     computed : Given (λ k. applies ls k ≡ true) (first ls)
     computed =
-        given_as (Applies ls) (λ k. applies ls k ≡ true) (λ k. ((applies_tells ls k).tell, (applies_tells ls k).told))
+        given_as (Applies ls) (λ k. applies ls k ≡ true) (λ k. ((applies_tells ls k).1, (applies_tells ls k).0))
         (first ls) (first_given ls sorted)
 
 -- Of lines in any order.
@@ -154,7 +147,7 @@ first_exactly (l ∷ ls) c = by_test (passes l.test) refl (first_exactly ls c)
   where
     by_test : (b : Bool) → passes l.test ≡ b → (first ls ≡ c) ↔ First ls c
         → (cond b (first ls) l.number ≡ c) ↔ ((Fails l.test × (l.number ≡ c)) ⊎ (Holds l.test × First ls c))
-    by_test true p rest = (λ e. inr ((tells l.test).told p, rest.0 e), back)
+    by_test true p rest = (λ e. inr ((tells l.test).0 p, rest.0 e), back)
       where
         back : (Fails l.test × (l.number ≡ c)) ⊎ (Holds l.test × First ls c) → first ls ≡ c
         back (inl here) = absurd (clear l p here.0)
@@ -163,4 +156,4 @@ first_exactly (l ∷ ls) c = by_test (passes l.test) refl (first_exactly ls c)
       where
         back : (Fails l.test × (l.number ≡ c)) ⊎ (Holds l.test × First ls c) → l.number ≡ c
         back (inl here) = here.1
-        back (inr there) = absurd (false≢true (sym p ∙ (tells l.test).tell there.0))
+        back (inr there) = absurd (false≢true (sym p ∙ (tells l.test).1 there.0))

@@ -10,7 +10,7 @@ use lib.Dec.{eqb}
 use Rattle.rules.specs.Sets.{Row, rows, find, row_of}
 use Rattle.rules.proofs.SetLaws.{find_next}
 use Rattle.answers.specs.Tests.{Under}
-use Rattle.answers.proofs.TestLaws.{eqb_tells}
+use Rattle.std.proofs.lemmas.Bool.Decides.{Decides-eqb}
 use Rattle.demands.specs.Table.{Unlisted}
 
 -- What holds of the row, where there is one.
@@ -36,7 +36,7 @@ find_none set (q ∷ rs) =
     by_test : (b : Bool) → eqb set q.number ≡ b → cond b (some q) (find set rs) ≡ none
         → (find set rs ≡ none → Unlisted set rs) → (set ≢ q.number) × Unlisted set rs
     by_test true h e rest = absurd (some-ne-none q e)
-    by_test false h e rest = (λ x. false≢true (sym h ∙ (eqb_tells set q.number).tell x), rest e)
+    by_test false h e rest = (λ x. false≢true (sym h ∙ (Decides-eqb set q.number).1 x), rest e)
 
 pub no_row : (set : ℕ) → (row_of set ≡ none) ↔ Unlisted set rows
 unfolding row_of

@@ -4,9 +4,8 @@ use Rattle.std.specs.Prelude.{◌≡◌, ℕ}
 use Rattle.std.proofs.Math.Option.{Option}
 use Rattle.rules.specs.Places.{Bytes}
 use Rattle.rules.specs.Sets.{Row}
-use Rattle.answers.specs.Answers.{number}
+use Rattle.answers.specs.Answers.{Answer, number}
 use Rattle.checking.specs.Checks.{Checked}
-use Rattle.answers.specs.declared.Answer.{Answer}
 
 -- What is promised of an answer, where n is its number. An answer is known by its number.
 pub record Numbered (n : ℕ) (Promise : Answer → Type 0) : Type 0 where

@@ -6,8 +6,7 @@ use mathlib.Core.List.{List}
 use Prim.Native.Nat.{ℕ}
 use Rattle.rules.specs.Places.{Bytes}
 use Rattle.rules.specs.Sets.{row_of}
-use Rattle.answers.specs.Answers.{number}
-use Rattle.answers.specs.declared.Answer.{Answer}
+use Rattle.answers.specs.Answers.{Answer, number}
 use Rattle.making.specs.Keys.{KeysMade}
 use Rattle.sealing.specs.Seals.{Sealed}
 use Rattle.checking.specs.Checks.{Checked}

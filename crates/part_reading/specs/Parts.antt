@@ -1,13 +1,18 @@
 -- Part reading: its lines, its answer, and the part.
 -- Assumes nothing.
-use Rattle.std.specs.Prelude.{List, [], ◌∷◌, ℕ, ◌+◌, length}
+use Rattle.std.specs.Prelude.{◌≡◌, List, [], ◌∷◌, ℕ, suc, ◌+◌, length, Result, Ok}
+use Rattle.std.specs.Result.{result_and, result_unwrap_or}
 use Rattle.std.proofs.Math.Option.{Option}
 use Rattle.rules.specs.Places.{Bytes}
 use Rattle.rules.specs.Sets.{Row}
 use Rattle.rules.specs.Seal.{part_start, part_length, part}
-use Rattle.answers.specs.Answers.{settled}
+use Rattle.answers.specs.Answers.{number, settled}
 use Rattle.answers.specs.Tests.{equal, within, known, under}
 use Rattle.answers.specs.Lines.{Line, line, first}
+use Rattle.answers.specs.declared.Refusal.{Refusal}
+use Rattle.part_reading.specs.declared.Extent.{Extent}
+use Rattle.part_reading.specs.declared.Kind.{Kind}
+use Rattle.part_reading.specs.declared.Kind.TheVariants.{Randomizer, Forest, Layer}
 
 -- Under the row of the set, if it has one: how many bytes a seal has, and the part's number.
 abbrev pub part_lines : Option Row → (seal number : ℕ) → List Line
@@ -36,3 +41,17 @@ module _ (row : Option Row) (seal : Bytes) (number : ℕ) where
 
   abbrev pub length_given : ℕ
   length_given = settled part_answer row (λ r. part_length r number) 0
+
+-- ---- For the code
+
+-- The number of the part of a kind.
+abbrev pub kind_number : Kind → ℕ
+kind_number Randomizer = 0
+kind_number Forest = 1
+kind_number (Layer j) = suc (suc j)
+
+-- What is told of the place of a part, or refused: then both numbers stand for 0.
+pub record Located (row : Option Row) (seal : Bytes) (k : ℕ) (found : Result Extent Refusal) : Type 0 where
+  pub answered : number (result_and found (Ok tt)) ≡ part_answer row seal k
+  pub start_is : (result_unwrap_or found (record { start = 0; length = 0 })).start ≡ start_given row seal k
+  pub length_is : (result_unwrap_or found (record { start = 0; length = 0 })).length ≡ length_given row seal k

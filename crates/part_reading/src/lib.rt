@@ -1,123 +1,95 @@
 // Part reading: a part is handed out as it lies in the seal.
 #![tactic(auto)]
 
-ghost use Rattle.std.specs.Prelude.{◌≡◌, ◌+◌, ◌≤◌, length};
+ghost use Rattle.std.specs.Prelude.{◌≡◌, ◌+◌, ◌≤◌, Ok, IfOk};
+ghost use Rattle.std.specs.Result.{result_and};
 ghost use Rattle.std.proofs.Math.Option.{some};
 ghost use Rattle.rules.specs.Sets.{row_of};
 ghost use Rattle.rules.specs.Seal.{part_start, part_length};
 ghost use Rattle.rows.specs.Rows.{ruled_row};
 ghost use Rattle.rows.specs.Ready.{Ready};
 ghost use Rattle.answers.specs.Answers.{number as number_of};
-ghost use Rattle.part_reading.specs.Parts.{byte_at, part_answer, part_given, start_given, length_given};
+ghost use Rattle.answers.specs.Lines.{first};
+ghost use Rattle.part_reading.specs.Parts.{byte_at, part_lines, part_answer, part_given, start_given, length_given};
+ghost use Rattle.part_reading.specs.Parts.{kind_number, Located};
 
-use answers::{Answer, number_of, unless};
+use answers::{Answer, Refusal, demand};
 use rows::sizes::{forest_bytes, layer_bytes};
-use rows::{Found, Row, find_row};
+use rows::{Row, find_row};
 
-// Where a part starts, and how long it is.
-fn part_start(row: Row, number: u32) -> usize
-    requires { Ready (ruled_row row) × (number ≤ row.d + 1) }
-    ensures { result ≡ part_start (ruled_row row) number }
+// Where a part lies in its seal.
+#[derive(Clone, Copy, Debug, PartialEq, Eq)]
+pub struct Extent {
+    pub start: usize,
+    pub length: usize,
+}
+
+// What a part is: numbers 0, 1, and 2 and more.
+#[derive(Clone, Copy)]
+enum Kind {
+    Randomizer,
+    Forest,
+    Layer(u32),
+}
+
+// The lines under a known set, in the paper's order, and then the kind of the part.
+#[tactic(auto, unfolding(answers::specs::Lines::first))]
+fn part_kind(row: Row, seal: usize, number: u32) -> Result<Kind, Refusal>
+    requires { Ready (ruled_row row) }
+    ensures answered { number_of (result_and result (Ok tt))
+        ≡ first (part_lines (some (ruled_row row)) seal number) }
+    ensures kind { IfOk result (λ kind. kind_number kind ≡ number) }
+{
+    demand(seal == row.seal, Refusal::SealLength)?;
+    demand(number <= row.d + 1, Refusal::UnknownPart)?;
+    Ok(match number {
+        0 => Kind::Randomizer,
+        1 => Kind::Forest,
+        _ => Kind::Layer(number - 2),
+    })
+}
+
+// Where the part of a kind lies.
+#[tactic(auto, unfolding(rules::specs::Seal::part_start, rules::specs::Seal::part_length, rules::specs::Forest::forest_bytes, rules::specs::Forest::tree_bytes, rules::specs::Layers::layer_bytes, rules::specs::Layers::chain_bytes,))]
+fn extent_of(row: Row, kind: Kind) -> Extent
+    requires { Ready (ruled_row row) × (kind_number kind ≤ row.d + 1) }
+    ensures start_value { result.start ≡ part_start (ruled_row row) (kind_number kind) }
+    ensures length_value { result.length ≡ part_length (ruled_row row) (kind_number kind) }
 {
     let n = row.n;
     let forest = forest_bytes(n, row.a, row.k);
     let layer = layer_bytes(n, row.hp);
-    match number {
-        0 => 0,
-        1 => n,
-        _ => n + forest + ((number - 2) as usize) * layer,
+    match kind {
+        Kind::Randomizer => Extent {
+            start: 0,
+            length: n,
+        },
+        Kind::Forest => Extent {
+            start: n,
+            length: forest,
+        },
+        Kind::Layer(j) => Extent {
+            start: n + forest + (j as usize) * layer,
+            length: layer,
+        },
     }
 }
 
-fn part_length(row: Row, number: u32) -> usize
-    requires { Ready (ruled_row row) }
-    ensures { result ≡ part_length (ruled_row row) number }
+// Where the part of a number lies, or the refusal: what part reading hands out are views of it.
+fn locate(set: u32, seal: &[u8], number: u32) -> Result<Extent, Refusal>
+    ensures { Located (row_of set) seal.now number result }
 {
-    let n = row.n;
-    let forest = forest_bytes(n, row.a, row.k);
-    let layer = layer_bytes(n, row.hp);
-    match number {
-        0 => n,
-        1 => forest,
-        _ => layer,
-    }
-}
-
-// The lines under a known set, from the last to the first.
-fn part_answer_under(row: Row, seal: &[u8], number: u32) -> Answer
-    requires { Ready (ruled_row row) }
-    ensures { number_of result ≡ part_answer (some (ruled_row row)) seal.now number }
-{
-    let whole = seal.len() == row.seal;
-    let there = number <= row.d + 1;
-    let six = unless(there, Answer::UnknownPart, Answer::Done);
-    unless(whole, Answer::SealLength, six)
-}
-
-// The part under a known set.
-fn part_under(row: Row, seal: &[u8], number: u32) -> &[u8]
-    requires { Ready (ruled_row row) }
-    ensures bytes { result.now ≡ part_given (some (ruled_row row)) seal.now number }
-    ensures place { result.ref_ptr ≡ byte_at seal.entry.ref_ptr
-        (start_given (some (ruled_row row)) seal.now number) }
-{
-    let answer = part_answer_under(row, seal, number);
-    if number_of(answer) != 0 {
-        return &seal[0..0];
-    }
-    let start = part_start(row, number);
-    let end = start + part_length(row, number);
-    &seal[start..end]
+    let row = find_row(set).ok_or(Refusal::UnknownSet)?;
+    let kind = part_kind(row, seal.len(), number)?;
+    Ok(extent_of(row, kind))
 }
 
 // The answer of part reading.
 pub fn part_answer(set: u32, seal: &[u8], number: u32) -> Answer
     ensures { number_of result ≡ part_answer (row_of set) seal.now number }
 {
-    let found = find_row(set);
-    match found {
-        Found::Is(row) => part_answer_under(row, seal, number),
-        Found::Unknown => Answer::UnknownSet,
-    }
-}
-
-// The part of a seal, as it lies there: the lent memory itself. Empty with every refusal.
-pub fn part(set: u32, seal: &[u8], number: u32) -> &[u8]
-    ensures bytes { result.now ≡ part_given (row_of set) seal.now number }
-    ensures place { result.ref_ptr ≡ byte_at seal.entry.ref_ptr (start_given (row_of set) seal.now number) }
-{
-    let found = find_row(set);
-    match found {
-        Found::Is(row) => part_under(row, seal, number),
-        Found::Unknown => &seal[0..0],
-    }
-}
-
-// Where a part lies in its seal.
-#[derive(Clone, Copy)]
-pub struct Extent {
-    pub start: usize,
-    pub length: usize,
-}
-
-fn part_extent_under(row: Row, seal: &[u8], number: u32) -> Extent
-    requires { Ready (ruled_row row) }
-    ensures start_value { result.start ≡ start_given (some (ruled_row row)) seal.now number }
-    ensures length_value { result.length ≡ length_given (some (ruled_row row)) seal.now number }
-{
-    let answer = part_answer_under(row, seal, number);
-    if number_of(answer) != 0 {
-        return Extent {
-            start: 0,
-            length: 0,
-        };
-    }
-    let start = part_start(row, number);
-    let length = part_length(row, number);
-    Extent {
-        start: start,
-        length: length,
-    }
+    locate(set, seal, number)?;
+    Ok(())
 }
 
 // Where the part of a seal lies; both numbers are 0 with every refusal.
@@ -125,12 +97,18 @@ pub fn part_extent(set: u32, seal: &[u8], number: u32) -> Extent
     ensures start_value { result.start ≡ start_given (row_of set) seal.now number }
     ensures length_value { result.length ≡ length_given (row_of set) seal.now number }
 {
-    let found = find_row(set);
-    match found {
-        Found::Is(row) => part_extent_under(row, seal, number),
-        Found::Unknown => Extent {
-            start: 0,
-            length: 0,
-        },
-    }
+    locate(set, seal, number).unwrap_or(Extent {
+        start: 0,
+        length: 0,
+    })
+}
+
+// The part of a seal, as it lies there: the lent memory itself. Empty with every refusal.
+pub fn part(set: u32, seal: &[u8], number: u32) -> &[u8]
+    ensures bytes { result.now ≡ part_given (row_of set) seal.now number }
+    ensures place { result.ref_ptr ≡ byte_at seal.entry.ref_ptr (start_given (row_of set) seal.now number) }
+{
+    let extent = part_extent(set, seal, number);
+    let end = extent.start + extent.length;
+    &seal[extent.start..end]
 }

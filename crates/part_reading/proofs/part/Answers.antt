@@ -1,31 +1,27 @@
--- `part` goes by the row of its set, and without one hands out the empty part.
+-- `part` cuts out what lies at the place told, which is within the seal, and empty with a refusal.
 -- Assumes nothing.
-use mathlib.Core.Path.{ap}
-use Rattle.rows.proofs.ReadyLaws.{row_of_ready}
-use Rattle.rows.proofs.RowLaws.{row_found, row_missing}
-use Rattle.part_reading.proofs.PartLaws.{part_by, part_unknown, extent_unknown}
-use Rattle.part_reading.specs.Parts.{byte_at}
+use mathlib.Core.Path.{sym, ap₂, ◌∙◌}
+use native.Mathlib.Omega.{arith}
+use lib.ListN.{take, drop}
+use Rattle.lists.proofs.Lent.{lent}
+use Rattle.part_reading.proofs.PartLaws.{part_cut, extent_inside}
 use Rattle.part_reading.proofs.part.Goals as goal
 
-pub part_under-requires : goal.part_under-requires
-part_under-requires c =
-    row_of_ready c.args.set _
-    (row_found c.in-Is.is c.find_row-found.ensures)
+pub overflow_add-end : goal.overflow_add-end
+overflow_add-end c =
+    let extent = c.part_extent-extent.ensures in
+    let inside = extent_inside c.args.set c.args.seal.now c.args.number extent.start_value extent.length_value in
+    record { fits = omega (arith, inside) }
 
-pub returns-in-Is : goal.returns-in-Is
-returns-in-Is c =
-    let a = c.args in
-    let under = c.part_under.ensures in
-    let both = part_by (row_found c.in-Is.is c.find_row-found.ensures)
-    a.seal.now a.number a.seal.ref_ptr (under.bytes, under.place) in
-    record { bytes = both.0; place = both.1 }
+pub slice_bounds-result-end : goal.slice_bounds-result-end
+slice_bounds-result-end c =
+    let extent = c.part_extent-extent.ensures in
+    let inside = extent_inside c.args.set c.args.seal.now c.args.number extent.start_value extent.length_value in
+    omega (arith, inside)
 
-pub returns-in-Unknown : goal.returns-in-Unknown
-returns-in-Unknown c =
-    let a = c.args in
-    let both = part_by (row_missing c.in-Unknown.is c.find_row-found.ensures)
-    a.seal.now a.number a.seal.ref_ptr (
-      (part_unknown a.seal.now a.number).1,
-      ap (byte_at a.seal.ref_ptr) (extent_unknown a.seal.now a.number).0,
-    ) in
-    record { bytes = both.0; place = both.1 }
+pub returns-clause-bytes : goal.returns-clause-bytes
+returns-clause-bytes c =
+    let extent = c.part_extent-extent.ensures in
+    lent _ _ c.args.seal.now
+    ∙ ap₂ (λ x y. take y (drop x c.args.seal.now)) extent.start_value extent.length_value
+    ∙ sym (part_cut _ c.args.seal.now c.args.number)
