@@ -43,7 +43,7 @@ use Rattle.part_reading.specs.declared.Extent.{Extent}
 use Rattle.answers.proofs.TestLaws.{at_row}
 use Rattle.answers.proofs.AnswerLaws.{settled_made, settled_kept, number_injective}
 use Rattle.checking.proofs.CheckingLaws.{walked_calls, no_calls}
-use Rattle.part_reading.proofs.PartLaws.{part_cut, part_inside}
+use Rattle.part_reading.proofs.PartLaws.{part_cut, extent_inside}
 use Rattle.demands.proofs.RowLaws.{found, mapped, no_row}
 use Rattle.demands.proofs.GivenLaws.{answer_given, answer_computed, done_when}
 
@@ -138,7 +138,7 @@ pub part_lies : (set : ℕ) (seal : Bytes) (k start long : ℕ) (given-part : By
     → (given-part ≡ take long (drop start seal)) × (start + long ≤ length seal)
 part_lies set seal k start long given-part s l p = (
   p ∙ part_cut (row_of set) seal k ∙ ap₂ (λ (x y : ℕ). take x (drop y seal)) (sym l) (sym s),
-  rw (s, l) (part_inside (row_of set) seal k (λ r e. (row_of_legal set r e).1)),
+  extent_inside set seal k s l,
 )
 
 -- ---- Chain digits

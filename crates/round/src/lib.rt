@@ -10,7 +10,7 @@ use making::make_keys;
 use sealing::seal;
 
 // The three answers, and the F calls of the check.
-#[derive(Clone, Copy)]
+#[derive(Clone, Copy, Debug, PartialEq, Eq)]
 pub struct Round {
     pub made: Answer,
     pub sealed: Answer,
@@ -37,11 +37,10 @@ pub fn make_seal_check(
     let made = make_keys(set, secret_seed, prf_seed, public_seed, public, secret);
     let sealed = seal(set, secret, message, random, out);
     let verdict = check(set, public, message, out);
-    let checked = verdict.answer;
     Round {
-        made: made,
-        sealed: sealed,
-        checked: checked,
+        made,
+        sealed,
+        checked: verdict.answer,
         calls: verdict.calls,
     }
 }
