@@ -7,11 +7,9 @@ use mathlib.Core.Bool.{Bool, true, false, not, cond, false≢true, ◌&&◌}
 use mathlib.Core.List.{List, [], ◌∷◌, ◌++◌}
 use mathlib.Core.Option.{Option, none}
 use Prim.Native.Nat.{ℕ}
-use native.Mathlib.Omega.{arith}
 use lib.Dec.{eqb}
 use Rattle.std.proofs.lemmas.Bool.Decides.{Decides-eqb, Decides-not}
-use Rattle.std.specs.Prelude as code
-use Rattle.std.specs.Prelude.{None, Err, ok_or}
+use Rattle.std.specs.Prelude.{Err}
 use Rattle.rules.specs.Sets.{Row}
 use Rattle.answers.specs.Answers.{number}
 use Rattle.answers.specs.declared.Refusal.{Refusal}
@@ -20,16 +18,13 @@ use Rattle.answers.specs.Tests.{known, passes, Holds}
 use Rattle.answers.specs.Lines.{Line, line, first, NoneApplies, lacks}
 use Rattle.answers.proofs.TestLaws.{tells}
 
--- ---- For code
+-- ---- The first line
 
 -- The refusal of a set without a row is the first line's.
-pub unknown_given : {A : Type 0} {found : code.Option A} {refusal : Refusal} {row : Option Row} (ls : List Line)
-    → Err refusal ≡ ok_or found UnknownSet → found ≡ None → row ≡ none
+pub unknown_given : {refusal : Refusal} {row : Option Row} (ls : List Line) → (refusal ≡ UnknownSet) × (row ≡ none)
     → number (Err refusal) ≡ first (line 1 (known row) ∷ ls)
 unfolding first
-unknown_given {refusal = refusal} ls value missing e =
-    let is : refusal ≡ UnknownSet = grind arith in
-    rw (e, is) refl
+unknown_given ls e = rw (e.0, e.1) refl
 
 -- ---- Lines before others
 

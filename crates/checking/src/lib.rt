@@ -9,9 +9,9 @@ ghost use Rattle.answers.specs.Answers.{number};
 ghost use Rattle.answers.specs.Lines.{first};
 ghost use Rattle.checking.specs.Checks.{length_lines, Checked, verdict};
 
-use answers::{Answer, MESSAGE_LIMIT, Refusal, demand};
+use answers::{Answer, MESSAGE_LIMIT, Refusal, demand, known_row};
 use checks::checked_root;
-use rows::{Row, find_row};
+use rows::Row;
 
 // An answer, and the F calls that were made for it. They stand beside the answer and not in its `Ok`, since they are
 // told with the refusal 5 too.
@@ -35,7 +35,7 @@ fn check_answer(row: Row, public: usize, message: usize, seal: usize) -> Answer
 fn walk(set: u32, public: &[u8], message: &[u8], seal: &[u8]) -> Result<Verdict, Refusal>
     ensures { Checked (row_of set) public.now message.now seal.now (verdict result) }
 {
-    let row = find_row(set).ok_or(Refusal::UnknownSet)?;
+    let row = known_row(set)?;
     check_answer(row, public.len(), message.len(), seal.len())?;
     let n = row.n;
     let head = [0u8; 2];

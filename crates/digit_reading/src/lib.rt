@@ -10,9 +10,9 @@ ghost use Rattle.answers.specs.Answers.{number};
 ghost use Rattle.answers.specs.Lines.{first};
 ghost use Rattle.digit_reading.specs.Digits.{digits_lines, DigitsRead};
 
-use answers::{Answer, Refusal, demand};
+use answers::{Answer, Refusal, demand, known_row};
+use rows::Row;
 use rows::sizes::chain_count;
-use rows::{Row, find_row};
 
 // The lines under a known set, in the paper's order.
 #[tactic(auto, unfolding(answers::specs::Lines::first))]
@@ -30,7 +30,7 @@ fn digits_answer(row: Row, value: usize, digits: usize) -> Answer
 pub fn chain_digits(set: u32, value: &[u8], digits: &mut [u32]) -> Answer
     ensures { DigitsRead (row_of set) value.now digits.old result digits.new }
 {
-    let row = find_row(set).ok_or(Refusal::UnknownSet)?;
+    let row = known_row(set)?;
     digits_answer(row, value.len(), digits.len())?;
     digits::chain_digits(value, digits);
     Ok(())

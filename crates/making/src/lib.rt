@@ -10,9 +10,9 @@ ghost use Rattle.answers.specs.Answers.{number};
 ghost use Rattle.answers.specs.Lines.{first};
 ghost use Rattle.making.specs.Keys.{keys_lines, KeysMade};
 
-use answers::{Answer, Refusal, demand};
+use answers::{Answer, Refusal, demand, known_row};
 use keys::keys_in;
-use rows::{Row, find_row};
+use rows::Row;
 
 // The lines under a known set, in the paper's order.
 #[tactic(auto, unfolding(answers::specs::Lines::first))]
@@ -40,7 +40,7 @@ pub fn make_keys(
         public_seed.now public.old secret.old result public.new
         secret.new }
 {
-    let row = find_row(set).ok_or(Refusal::UnknownSet)?;
+    let row = known_row(set)?;
     keys_answer(
         row,
         secret_seed.len(),

@@ -13,9 +13,9 @@ ghost use Rattle.answers.specs.Lines.{first};
 ghost use Rattle.part_reading.specs.Parts.{byte_at, part_lines, part_answer, part_given, start_given, length_given};
 ghost use Rattle.part_reading.specs.Parts.{kind_number, Located};
 
-use answers::{Answer, Refusal, demand};
+use answers::{Answer, Refusal, demand, known_row};
+use rows::Row;
 use rows::sizes::{forest_bytes, layer_bytes};
-use rows::{Row, find_row};
 
 // Where a part lies in its seal.
 #[derive(Clone, Copy, Debug, PartialEq, Eq)]
@@ -79,7 +79,7 @@ fn extent_of(row: Row, kind: Kind) -> Extent
 fn locate(set: u32, seal: &[u8], number: u32) -> Result<Extent, Refusal>
     ensures { Located (row_of set) seal.now number result }
 {
-    let row = find_row(set).ok_or(Refusal::UnknownSet)?;
+    let row = known_row(set)?;
     let kind = part_kind(row, seal.len(), number)?;
     Ok(extent_of(row, kind))
 }

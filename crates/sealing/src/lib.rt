@@ -9,8 +9,8 @@ ghost use Rattle.answers.specs.Answers.{number};
 ghost use Rattle.answers.specs.Lines.{first};
 ghost use Rattle.sealing.specs.Seals.{seal_lines, Sealed};
 
-use answers::{Answer, MESSAGE_LIMIT, Refusal, demand};
-use rows::{Row, find_row};
+use answers::{Answer, MESSAGE_LIMIT, Refusal, demand, known_row};
+use rows::Row;
 use seals::seal_in;
 
 // The lines under a known set, in the paper's order.
@@ -36,7 +36,7 @@ pub fn seal<'a>(
     ensures { Sealed (row_of set) secret.now message.now random.now
         out.old result out.new }
 {
-    let row = find_row(set).ok_or(Refusal::UnknownSet)?;
+    let row = known_row(set)?;
     seal_answer(row, secret.len(), message.len(), random.len(), out.len())?;
     let head = [0u8; 2];
     seal_in(row, secret, &head, b"", message, random, out);

@@ -4,9 +4,8 @@ use mathlib.Core.Path.{refl, ap, ◌∙◌}
 use mathlib.Core.Bool.{Bool, cond}
 use native.Mathlib.Omega.{arith}
 use Rattle.std.specs.Prelude.{Ok, Err}
+use Rattle.std.proofs.Common.{rules}
 use Rattle.std.proofs.lemmas.Result.{err_from_is_err_and}
-use Rattle.rows.proofs.ReadyLaws.{row_of_ready}
-use Rattle.rows.proofs.RowLaws.{row_found, row_missing}
 use Rattle.rows.proofs.SizeLaws.{rest_piece}
 use Rattle.answers.proofs.LineLaws.{unknown_given, none_applies}
 use Rattle.checking.proofs.CheckingLaws.{check_refused, key_long, check_walked}
@@ -15,42 +14,33 @@ use Rattle.checking.proofs.walk.Goals as goal
 
 pub returns-in_err-row : goal.returns-in_err-row
 returns-in_err-row c =
-    let missing = c.in_err-row.ensures in
-    let unknown = row_missing missing.ok_part c.find_row.ensures in
     let result = err_from_is_err_and c.from_residual.result c.from_residual.ensures.1 in
-    rw (result.1, result.2) (check_refused _ (unknown_given _ missing.value missing.ok_part unknown))
+    rw (result.1, result.2) (check_refused _ (unknown_given _ c.in_err-row.ensures.unknown))
 
 pub returns-in_err-check_answer : goal.returns-in_err-check_answer
 returns-in_err-check_answer c =
-    let known = row_found c.in_ok-row.ensures.ok_part c.find_row.ensures in
-    let result = err_from_is_err_and c.from_residual-in_err-check_answer.result
-    c.from_residual-in_err-check_answer.ensures.1 in
-    rw (result.1, result.2, known) (check_refused _ c.in_err-check_answer.ensures)
+    let refused = check_refused _ c.in_err-check_answer.ensures in
+    search (rules, c.in_ok-row.ensures.known, refused)
 
 pub checked_root-walked-requires : goal.checked_root-walked-requires
 checked_root-walked-requires c =
-    let known = row_found c.in_ok-row.ensures.ok_part c.find_row.ensures in
     let (_, (public, (_, (seal, _)))) = none_applies _ refl c.in_ok-check_answer.ensures in
-    (row_of_ready _ _ known, public _ refl, seal _ refl)
+    (c.in_ok-row.ensures.ready, public _ refl, seal _ refl)
 
 pub shared_ref_as_front-root : goal.shared_ref_as_front-root
-shared_ref_as_front-root c =
-    (row_of_ready _ _ (row_found c.in_ok-row.ensures.ok_part c.find_row.ensures)).fit.values
+shared_ref_as_front-root c = c.in_ok-row.ensures.ready.fit.values
 
 pub slice_bounds-own-count : goal.slice_bounds-own-count
 slice_bounds-own-count c =
-    let known = row_found c.in_ok-row.ensures.ok_part c.find_row.ensures in
-    omega (arith, key_long _ _ _ _ (row_of_ready _ _ known) c.in_ok-check_answer.ensures)
+    omega (arith, key_long _ _ _ _ c.in_ok-row.ensures.ready c.in_ok-check_answer.ensures)
 
 pub slice_bounds-own-start : goal.slice_bounds-own-start
 slice_bounds-own-start c =
-    let known = row_found c.in_ok-row.ensures.ok_part c.find_row.ensures in
-    omega (arith, key_long _ _ _ _ (row_of_ready _ _ known) c.in_ok-check_answer.ensures)
+    omega (arith, key_long _ _ _ _ c.in_ok-row.ensures.ready c.in_ok-check_answer.ensures)
 
 pub returns : goal.returns
 returns c =
-    let known = row_found c.in_ok-row.ensures.ok_part c.find_row.ensures in
-    let long = key_long _ _ _ _ (row_of_ready _ _ known) c.in_ok-check_answer.ensures in
-    check_walked _ known c.in_ok-check_answer.ensures
+    let long = key_long _ _ _ _ c.in_ok-row.ensures.ready c.in_ok-check_answer.ensures in
+    check_walked _ c.in_ok-row.ensures.known c.in_ok-check_answer.ensures
     (c.demand-answer.ensures ∙ ap (λ (b : Bool). cond b (Ok tt) (Err RootDiffers)) c.eq-alike.ensures)
     c.checked_root-walked.ensures.value_is (rest_piece _ _ long) c.checked_root-walked.ensures.counted

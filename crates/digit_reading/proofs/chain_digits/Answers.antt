@@ -4,36 +4,30 @@ use mathlib.Core.Path.{refl}
 use Rattle.std.proofs.Common.{rules}
 use Rattle.std.proofs.lemmas.Result.{err_from_is_err_and}
 use Rattle.rules.proofs.SetLaws.{checksum_fits}
-use Rattle.rows.proofs.ReadyLaws.{row_of_ready}
-use Rattle.rows.proofs.RowLaws.{row_found, row_missing}
 use Rattle.answers.proofs.LineLaws.{unknown_given, none_applies}
 use Rattle.digit_reading.proofs.DigitsLaws.{digits_done, digits_refused}
 use Rattle.digit_reading.proofs.chain_digits.Goals as goal
 
 pub returns-in_err-row : goal.returns-in_err-row
 returns-in_err-row c =
-    let missing = c.in_err-row.ensures in
-    let unknown = row_missing missing.ok_part c.find_row.ensures in
     let result = err_from_is_err_and c.from_residual.result c.from_residual.ensures.1 in
-    rw (result.1, result.2) (digits_refused _ (unknown_given _ missing.value missing.ok_part unknown))
+    rw (result.1, result.2) (digits_refused _ (unknown_given _ c.in_err-row.ensures.unknown))
 
 pub digits_answer-requires : goal.digits_answer-requires
-digits_answer-requires c = row_of_ready _ _ (row_found c.in_ok-row.ensures.ok_part c.find_row.ensures)
+digits_answer-requires c = c.in_ok-row.ensures.ready
 
 pub returns-in_err-digits_answer : goal.returns-in_err-digits_answer
 returns-in_err-digits_answer c =
-    let known = row_found c.in_ok-row.ensures.ok_part c.find_row.ensures in
     let refused = digits_refused _ c.in_err-digits_answer.ensures in
-    search (rules, known, refused)
+    search (rules, c.in_ok-row.ensures.known, refused)
 
 pub chain_digits-requires : goal.chain_digits-requires
 chain_digits-requires c =
-    let ready = row_of_ready _ _ (row_found c.in_ok-row.ensures.ok_part c.find_row.ensures) in
+    let ready = c.in_ok-row.ensures.ready in
     let (_, (value, (digits, _))) = none_applies _ refl c.in_ok-digits_answer.ensures in
     (rw (value _ refl) (checksum_fits _ ready.legal), rw (value _ refl) (digits _ refl))
 
 pub returns : goal.returns
 returns c =
-    let known = row_found c.in_ok-row.ensures.ok_part c.find_row.ensures in
     let (_, (value, _)) = none_applies _ refl c.in_ok-digits_answer.ensures in
-    digits_done _ known c.in_ok-digits_answer.ensures (value _ refl) c.chain_digits.ensures
+    digits_done _ c.in_ok-row.ensures.known c.in_ok-digits_answer.ensures (value _ refl) c.chain_digits.ensures

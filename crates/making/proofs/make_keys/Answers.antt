@@ -3,30 +3,24 @@
 use mathlib.Core.Path.{refl}
 use Rattle.std.proofs.Common.{rules}
 use Rattle.std.proofs.lemmas.Result.{err_from_is_err_and}
-use Rattle.rows.proofs.ReadyLaws.{row_of_ready}
-use Rattle.rows.proofs.RowLaws.{row_found, row_missing}
 use Rattle.answers.proofs.LineLaws.{unknown_given, none_applies}
 use Rattle.making.proofs.MakingLaws.{keys_done, keys_refused}
 use Rattle.making.proofs.make_keys.Goals as goal
 
 pub returns-in_err-row : goal.returns-in_err-row
 returns-in_err-row c =
-    let missing = c.in_err-row.ensures in
-    let unknown = row_missing missing.ok_part c.find_row.ensures in
     let result = err_from_is_err_and c.from_residual.result c.from_residual.ensures.1 in
-    rw (result.1, result.2) (keys_refused _ (unknown_given _ missing.value missing.ok_part unknown))
+    rw (result.1, result.2) (keys_refused _ (unknown_given _ c.in_err-row.ensures.unknown))
 
 pub returns-in_err-keys_answer : goal.returns-in_err-keys_answer
 returns-in_err-keys_answer c =
-    let known = row_found c.in_ok-row.ensures.ok_part c.find_row.ensures in
     let refused = keys_refused _ c.in_err-keys_answer.ensures in
-    search (rules, known, refused)
+    search (rules, c.in_ok-row.ensures.known, refused)
 
 pub keys_in-requires-clause-ready : goal.keys_in-requires-clause-ready
 keys_in-requires-clause-ready c =
-    let known = row_found c.in_ok-row.ensures.ok_part c.find_row.ensures in
     let (_, (sk, (prf, (pk, _)))) = none_applies _ refl c.in_ok-keys_answer.ensures in
-    (row_of_ready _ _ known, sk _ refl, prf _ refl, pk _ refl)
+    (c.in_ok-row.ensures.ready, sk _ refl, prf _ refl, pk _ refl)
 
 pub keys_in-requires-clause-keys_len : goal.keys_in-requires-clause-keys_len
 keys_in-requires-clause-keys_len c =
@@ -35,5 +29,5 @@ keys_in-requires-clause-keys_len c =
 
 pub returns : goal.returns
 returns c =
-    let known = row_found c.in_ok-row.ensures.ok_part c.find_row.ensures in
-    keys_done _ known c.in_ok-keys_answer.ensures c.keys_in.ensures.public_after c.keys_in.ensures.secret_after
+    keys_done _ c.in_ok-row.ensures.known c.in_ok-keys_answer.ensures c.keys_in.ensures.public_after
+    c.keys_in.ensures.secret_after

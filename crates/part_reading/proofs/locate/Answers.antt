@@ -3,36 +3,29 @@
 use mathlib.Core.Path.{refl}
 use Rattle.std.proofs.Common.{rules}
 use Rattle.std.proofs.lemmas.Result.{err_from_is_err_and}
-use Rattle.rows.proofs.ReadyLaws.{row_of_ready}
-use Rattle.rows.proofs.RowLaws.{row_found, row_missing}
 use Rattle.answers.proofs.LineLaws.{unknown_given, none_applies}
 use Rattle.part_reading.proofs.PartLaws.{located_refused, located_done}
 use Rattle.part_reading.proofs.locate.Goals as goal
 
 pub returns-in_err-row : goal.returns-in_err-row
 returns-in_err-row c =
-    let missing = c.in_err-row.ensures in
-    let unknown = row_missing missing.ok_part c.find_row.ensures in
     let result = err_from_is_err_and c.from_residual.result c.from_residual.ensures.1 in
-    rw (result.1, result.2) (located_refused _ (unknown_given _ missing.value missing.ok_part unknown))
+    rw (result.1, result.2) (located_refused _ (unknown_given _ c.in_err-row.ensures.unknown))
 
 pub part_kind-requires : goal.part_kind-requires
-part_kind-requires c = row_of_ready _ _ (row_found c.in_ok-row.ensures.ok_part c.find_row.ensures)
+part_kind-requires c = c.in_ok-row.ensures.ready
 
 pub returns-in_err-kind : goal.returns-in_err-kind
 returns-in_err-kind c =
-    let known = row_found c.in_ok-row.ensures.ok_part c.find_row.ensures in
     let refused = located_refused _ c.in_err-kind.ensures.answered in
-    search (rules, known, refused)
+    search (rules, c.in_ok-row.ensures.known, refused)
 
 pub extent_of-requires : goal.extent_of-requires
 extent_of-requires c =
-    let known = row_found c.in_ok-row.ensures.ok_part c.find_row.ensures in
     let (_, (_, (there, _))) = none_applies _ refl c.in_ok-kind.ensures.answered in
-    (row_of_ready _ _ known, rw c.in_ok-kind.ensures.kind (there _ refl))
+    (c.in_ok-row.ensures.ready, rw c.in_ok-kind.ensures.kind (there _ refl))
 
 pub returns : goal.returns
 returns c =
-    let known = row_found c.in_ok-row.ensures.ok_part c.find_row.ensures in
     let extent = rw c.in_ok-kind.ensures.kind at c.extent_of.ensures in
-    located_done _ known c.in_ok-kind.ensures.answered extent.start_value extent.length_value
+    located_done _ c.in_ok-row.ensures.known c.in_ok-kind.ensures.answered extent.start_value extent.length_value

@@ -3,32 +3,25 @@
 use mathlib.Core.Path.{refl}
 use Rattle.std.proofs.Common.{rules}
 use Rattle.std.proofs.lemmas.Result.{err_from_is_err_and}
-use Rattle.rows.proofs.ReadyLaws.{row_of_ready}
-use Rattle.rows.proofs.RowLaws.{row_found, row_missing}
 use Rattle.answers.proofs.LineLaws.{unknown_given, none_applies}
 use Rattle.sealing.proofs.SealingLaws.{seal_done, seal_refused}
 use Rattle.sealing.proofs.seal.Goals as goal
 
 pub returns-in_err-row : goal.returns-in_err-row
 returns-in_err-row c =
-    let missing = c.in_err-row.ensures in
-    let unknown = row_missing missing.ok_part c.find_row.ensures in
     let result = err_from_is_err_and c.from_residual.result c.from_residual.ensures.1 in
-    rw (result.1, result.2) (seal_refused _ (unknown_given _ missing.value missing.ok_part unknown))
+    rw (result.1, result.2) (seal_refused _ (unknown_given _ c.in_err-row.ensures.unknown))
 
 pub returns-in_err-seal_answer : goal.returns-in_err-seal_answer
 returns-in_err-seal_answer c =
-    let known = row_found c.in_ok-row.ensures.ok_part c.find_row.ensures in
     let refused = seal_refused _ c.in_err-seal_answer.ensures in
-    search (rules, known, refused)
+    search (rules, c.in_ok-row.ensures.known, refused)
 
 pub seal_in-requires : goal.seal_in-requires
 seal_in-requires c =
-    let known = row_found c.in_ok-row.ensures.ok_part c.find_row.ensures in
     let (_, (secret, (_, (_, (out, _))))) = none_applies _ refl c.in_ok-seal_answer.ensures in
-    (row_of_ready _ _ known, secret _ refl, out _ refl)
+    (c.in_ok-row.ensures.ready, secret _ refl, out _ refl)
 
 pub returns : goal.returns
 returns c =
-    let known = row_found c.in_ok-row.ensures.ok_part c.find_row.ensures in
-    seal_done _ known c.in_ok-seal_answer.ensures c.seal_in.ensures
+    seal_done _ c.in_ok-row.ensures.known c.in_ok-seal_answer.ensures c.seal_in.ensures
