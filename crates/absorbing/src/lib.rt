@@ -8,7 +8,7 @@ ghost use Rattle.sponge.specs.Stream.{Rate, sponge, mixed, empty, turn as turned
 use permutation::permute;
 
 // The lanes, and the place of the next byte, at a rate of RATE bytes.
-#[derive(Drop)]
+#[derive(Clone, Copy)]
 pub struct Sponge<const RATE: usize> {
     pub lanes: [u64; 25],
     pub at: usize,

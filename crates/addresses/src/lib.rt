@@ -59,7 +59,8 @@ impl TryFrom<u32> for PlaceKind {
     }
 }
 
-// The words of an address, the type's number among them (figure 2).
+// The words of an address (figure 2). The type stands as its number and not as a `PlaceKind`, since `address_bytes`
+// writes any words.
 #[derive(Clone, Copy, Debug, PartialEq, Eq)]
 pub struct Address {
     pub layer: u32,

@@ -1,4 +1,4 @@
--- What a buffer holds by the answer, what a line says by its test, and that an answer is known by its number.
+-- What a buffer holds by the answer, and that an answer is known by its number: by cases on refusal and number.
 -- Assumes nothing.
 use mathlib.Core.Path.{◌≡◌, refl, sym, ap, ap₂, ◌∙◌}
 use mathlib.Core.Logic.{◌≢◌}

@@ -1,5 +1,5 @@
--- Lines one by one: a line more before the others, lines before others, and when none applies; by cases on whether the
--- first test passes.
+-- Lines one by one: the first line, lines before others, and when none applies; by cases on whether the first test
+-- passes.
 -- Assumes nothing.
 use mathlib.Core.Path.{◌≡◌, refl, sym, ◌∙◌}
 use mathlib.Core.Logic.{◌↔◌, ◌≢◌}

@@ -4,12 +4,12 @@
 ghost use Rattle.std.specs.Prelude.{◌≡◌, Ok, Err, IfOk, IfErr, cond};
 ghost use Rattle.std.proofs.Math.Option.{some, none};
 ghost use Rattle.rules.specs.Sets.{row_of};
-ghost use Rattle.rows.specs.Ready.{Ready};
 ghost use Rattle.rows.specs.Rows.{ruled_row};
 ghost use Rattle.answers.specs.Answers.{number};
 ghost use Rattle.answers.specs.declared.Refusal.TheVariants.{UnknownSet};
 
-use rows::{Row, find_row};
+use rows::find_row;
+use rows::sets::Set;
 
 // The paper's refusals 1 to 6.
 #[derive(Clone, Copy, Debug, PartialEq, Eq)]
@@ -25,7 +25,7 @@ pub enum Refusal {
 // The paper's answers 0 to 6: done, or a refusal.
 pub type Answer = Result<(), Refusal>;
 
-// The paper's number of an answer.
+// The paper's number of an answer. A function, since a `Result` may have no `From` here.
 pub fn number_of(answer: Answer) -> u32
     ensures { result ≡ number answer }
 {
@@ -50,11 +50,11 @@ pub fn demand(passed: bool, refusal: Refusal) -> Answer
     if passed { Ok(()) } else { Err(refusal) }
 }
 
-// The first line: the row of a set.
-pub fn known_row(set: u32) -> Result<Row, Refusal>
-    ensures known { IfOk result (λ row. row_of set ≡ some (ruled_row row)) }
-    ensures ready { IfOk result (λ row. Ready (ruled_row row)) }
-    ensures unknown { IfErr result (λ refusal. (refusal ≡ UnknownSet) × (row_of set ≡ none)) }
+// The first line: the set of a number.
+pub fn known_set(number: u32) -> Result<Set, Refusal>
+    ensures known { IfOk result (λ set. row_of number ≡ some (ruled_row set.row)) }
+    ensures unknown { IfErr result (λ refusal. (refusal ≡ UnknownSet) × (row_of number ≡ none)) }
 {
-    find_row(set).ok_or(Refusal::UnknownSet)
+    let row = find_row(number).ok_or(Refusal::UnknownSet)?;
+    Ok(Set { row })
 }

@@ -28,16 +28,10 @@ pub fn chain_in(hashes: &Hashes, spot: Spot, c: u32, start: u32, steps: u32, io:
     ensures f_calls { result ≡ count (Kind.of Function.F) (chain (ruled_hashes hashes.now)
         (chain_step spot.layer spot.tree spot.pair c) io.old start steps).calls }
 {
+    let Spot { layer, tree, pair } = spot;
     for k in 0..steps {
         hashes.f_in(
-            address_at(
-                PlaceKind::ChainStep,
-                spot.layer,
-                spot.tree,
-                spot.pair,
-                c,
-                start + k,
-            ),
+            address_at(PlaceKind::ChainStep, layer, tree, pair, c, start + k),
             io,
         );
     }
@@ -50,21 +44,15 @@ fn own_chain(holder: &Holder, spot: Spot, c: u32, steps: u32, out: &mut [u8])
     ensures { out.new ≡ own_chain (ruled_hashes holder.now.hashes)
         spot.layer spot.tree spot.pair holder.now.secret.now c steps }
 {
+    let Spot { layer, tree, pair } = spot;
     holder.secret_in(
-        address_at(
-            PlaceKind::ChainSecret,
-            spot.layer,
-            spot.tree,
-            spot.pair,
-            c,
-            0,
-        ),
+        address_at(PlaceKind::ChainSecret, layer, tree, pair, c, 0),
         out,
     );
     chain_in(&holder.hashes, spot, c, 0, steps, out);
 }
 
-// What a seal shows for the digits, chain after chain.
+// What a seal shows for the digits, chain after chain. A place is worked out, since `chunks_exact_mut` takes no n of 0.
 pub fn shown_in(holder: &Holder, spot: Spot, ds: &[u32], out: &mut [u8])
     requires { (length out.old ≡ length ds.now * holder.now.hashes.kit.n) × (length ds.now < 2 ^ 32) × Below 16 ds.now }
     ensures { out.new ≡ (shown (ruled_hashes holder.now.hashes)

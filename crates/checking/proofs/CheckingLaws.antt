@@ -24,6 +24,7 @@ use Rattle.answers.specs.Answers.{Answer, number}
 use Rattle.answers.specs.Lines.{first}
 use Rattle.checking.specs.Checks.{length_lines, root_line, recomputed, Checked}
 use Rattle.answers.specs.declared.Refusal.{Refusal}
+use Rattle.checking.specs.declared.Verdict.{Verdict}
 use Rattle.answers.specs.declared.Refusal.TheVariants.{RootDiffers}
 use Rattle.answers.proofs.LineLaws.{not_given, given_early, given_late, none_applies}
 use Rattle.answers.proofs.AnswerLaws.{refused}
@@ -52,6 +53,12 @@ root_number true = refl
 root_number false = refl
 
 -- ---- What checking promises
+
+-- A promise under a row is the promise under the same row by another name.
+module _ {row other : Option Row} (e : row ≡ other) where
+  pub check_by : {public message seal : Bytes} {v : Verdict} → Checked other public message seal v
+      → Checked row public message seal v
+  check_by k = rw e k
 
 module _ {row : Option Row} {public message seal : Bytes} where
   pub check_refused : (refusal : Refusal)
@@ -105,4 +112,4 @@ module _ (r : Row) {public message seal root own : Bytes} {answer : Answer} {cal
       → root ≡ (walk r public message seal).result → own ≡ piece r.n 1 public
       → calls ≡ count (of F) (walk r public message seal).calls
       → Checked row public message seal (record { answer = answer; calls = calls })
-  check_walked known z e g h f = rw known (root_decides z e g h f)
+  check_walked known z e g h f = check_by known (root_decides z e g h f)

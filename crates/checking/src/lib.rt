@@ -9,8 +9,9 @@ ghost use Rattle.answers.specs.Answers.{number};
 ghost use Rattle.answers.specs.Lines.{first};
 ghost use Rattle.checking.specs.Checks.{length_lines, Checked, verdict};
 
-use answers::{Answer, MESSAGE_LIMIT, Refusal, demand, known_row};
+use answers::{Answer, MESSAGE_LIMIT, Refusal, demand, known_set};
 use checks::checked_root;
+use message_calls::Framed;
 use rows::Row;
 
 // An answer, and the F calls that were made for it. They stand beside the answer and not in its `Ok`, since they are
@@ -35,11 +36,16 @@ fn check_answer(row: Row, public: usize, message: usize, seal: usize) -> Answer
 fn walk(set: u32, public: &[u8], message: &[u8], seal: &[u8]) -> Result<Verdict, Refusal>
     ensures { Checked (row_of set) public.now message.now seal.now (verdict result) }
 {
-    let row = known_row(set)?;
-    check_answer(row, public.len(), message.len(), seal.len())?;
-    let n = row.n;
+    let known = known_set(set)?;
+    check_answer(known.row, public.len(), message.len(), seal.len())?;
+    let n = known.row.n;
     let head = [0u8; 2];
-    let walked = checked_root(row, public, &head, b"", message, seal);
+    let framed = Framed {
+        head: &head,
+        context: b"",
+        message,
+    };
+    let walked = checked_root(known, public, &framed, seal);
     let calls = walked.calls;
     let root = &walked.value[..n];
     let own = &public[n..];

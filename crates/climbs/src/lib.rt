@@ -13,7 +13,8 @@ ghost use Rattle.climbs.specs.Groves.{place_of};
 use crate::groves::{Grove, node_address};
 use calls::Hashes;
 
-// A value that a seal leads to, and the F calls on the way.
+// A value that a seal leads to, and the F calls on the way. Nothing is allocated, so a value has room for 32 bytes, of
+// which the first n of the set count.
 #[derive(Clone, Copy)]
 pub struct Walked {
     pub value: [u8; 32],
@@ -47,15 +48,14 @@ pub fn climb(
 ) -> [u8; 32]
     requires { (hashes.now.kit.n ≤ 32) × (length auth.now ≡ count * hashes.now.kit.n) }
     ensures { take hashes.now.kit.n result
-        ≡ (climb (ruled_hashes hashes.now) (place_of grove) count 0 i (take hashes.now.kit.n leaf) auth.now
-        ).result }
+        ≡ (climb (ruled_hashes hashes.now) (place_of grove) count 0 i (take hashes.now.kit.n leaf) auth.now).result }
 {
     let n = hashes.kit.n;
     let mut v = leaf;
     let mut j = i;
     for z in 0..count {
         let at = z as usize * n;
-        // Named first, since the check takes no array from a call into a variable that lives on.
+        // Named first, since the check does not cover this call's array laid into a variable that lives on.
         let u = up(hashes, grove, z, j, v, &auth[at..at + n]);
         v = u;
         j /= 2;

@@ -1,4 +1,5 @@
 // The exported functions: those of `face`, with the same promises, for a static library that C and Rust programs link.
+// No crate can import a static library, so they stand in both.
 #![tactic(auto)]
 
 ghost use Rattle.std.specs.Prelude.{◌≡◌};

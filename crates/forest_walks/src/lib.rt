@@ -1,7 +1,7 @@
 // The forest from its part of a seal (FIPS 205, algorithm 17).
 #![tactic(auto)]
 
-ghost use Rattle.std.specs.Prelude.{◌≡◌, ◌*◌, ◌^◌, length};
+ghost use Rattle.std.specs.Prelude.{◌^◌, length};
 ghost use Rattle.rules.specs.Forest.{forest_root};
 ghost use Rattle.calls.specs.Hashes.{ruled_hashes};
 ghost use Rattle.climbs.specs.Leads.{Leads};

@@ -4,12 +4,17 @@ use mathlib.Core.Path.{◌≡◌}
 use mathlib.Core.List.{List, ◌++◌, append_assoc, append-nil}
 use Prim.Native.Nat.{ℕ, ◌+◌, ◌*◌, ◌^◌, ◌≤◌, ◌<◌}
 use native.Mathlib.Numerals.{add-one}
+use native.Mathlib.Omega.{arith}
 use lib.ListN.{length, drop, get_or, drop_of_length-le}
 use lib.Seq.{drop-cons}
 use Rattle.rules.specs.Places.{Bytes, forest_secret, address}
 use Rattle.rules.specs.Calls.{PRF, Hashes}
 use Rattle.rules.specs.Trees.{path}
 use Rattle.rules.specs.Forest.{forest_tree, forest_seal}
+
+-- The place of the next of equal parts.
+pub next_place : (j m : ℕ) {x : ℕ} → x ≡ j * m → x + m ≡ (j + 1) * m
+next_place j m e = omega (arith, e)
 
 module _ (w : Hashes) (t p a : ℕ) (sk : Bytes) where
   -- A tree's part at leaf i of all trees.

@@ -18,9 +18,11 @@ use trees::paths::path_in;
 
 // A tree's part: the secret value of leaf i of all trees, and its path.
 fn tree_seal_in(holder: &Holder, pointed: Pointed, a: u32, i: u32, out: &mut [u8])
-    requires { (holder.now.hashes.kit.n ≤ 32) × (length out.old ≡ holder.now.hashes.kit.n + a * holder.now.hashes.kit.n) × (i + 2 ^ a ≤ 2 ^ 32) }
+    requires { (holder.now.hashes.kit.n ≤ 32)
+        × (length out.old ≡ holder.now.hashes.kit.n + a * holder.now.hashes.kit.n) × (i + 2 ^ a ≤ 2 ^ 32) }
     ensures { out.new ≡ (ruled_hashes holder.now.hashes).hash Function.PRF
-        (address (forest_secret pointed.tree pointed.leaf i)) holder.now.secret.now ++ (path (ruled_hashes holder.now.hashes)
+        (address (forest_secret pointed.tree pointed.leaf i)) holder.now.secret.now
+        ++ (path (ruled_hashes holder.now.hashes)
         (forest_tree (ruled_hashes holder.now.hashes) pointed.tree pointed.leaf holder.now.secret.now) a 0 i).result }
 {
     let secret = address_at(PlaceKind::ForestSecret, 0, pointed.tree, pointed.leaf, 0, i);
@@ -39,8 +41,8 @@ fn tree_seal_in(holder: &Holder, pointed: Pointed, a: u32, i: u32, out: &mut [u8
 pub fn forest_seal_in(holder: &Holder, pointed: Pointed, a: u32, ds: &[u32], out: &mut [u8])
     requires wood { Wood holder.now.hashes.kit.n a (length ds.now) (length out.old) × Below (2 ^ a) ds.now }
     requires leaves_fit { (length ds.now + 1) * 2 ^ a ≤ 2 ^ 32 }
-    ensures { out.new ≡ (forest_seal (ruled_hashes holder.now.hashes) pointed.tree pointed.leaf a holder.now.secret.now 0
-        ds.now).result }
+    ensures { out.new ≡ (forest_seal (ruled_hashes holder.now.hashes)
+        pointed.tree pointed.leaf a holder.now.secret.now 0 ds.now).result }
 {
     let step = tree_bytes(holder.hashes.kit.n, a);
     for (j, &d) in ds.iter().enumerate() {

@@ -11,9 +11,7 @@ use lib.Arith.{mod-mul}
 use lib.Bits.{bit_or, bit_xor, bit_and, or_self, or_shifted}
 use lib.ListN.{get_or, length, set, length-set}
 use lib.Pow.{pow_pos, pow-add, shl-shr, shr_lt}
-use Rattle.lists.specs.Below.{Below}
-use Rattle.lists.proofs.Below.{below_test}
-use Rattle.keccak.specs.Constants.{walk, offsets, constant}
+use Rattle.keccak.specs.Constants.{constant}
 use Rattle.keccak.specs.Keccak.{rotated, inverted, lane, each, state, C, D, θ, ρ, π, χ, ι, round, rounds, keccak_f}
 use Rattle.keccak.proofs.Each.{length-each, Filled, filled_next}
 
@@ -27,11 +25,6 @@ lane_place s i h =
 -- The lane of χ.
 abbrev pub chosen : List ℕ → ℕ → ℕ → ℕ
 chosen s x y = bit_xor (lane s x y) (bit_and (inverted (lane s (x + 1) y)) (lane s (x + 2) y))
-
--- Each offset is less than a lane's width.
-pub offsets_below : Below 64 offsets
-unfolding offsets walk
-offsets_below = below_test 64 offsets (omega arith) tt
 
 -- One round more.
 pub rounds_next : (n : ℕ) (s : List ℕ) → rounds (n + 1) s ≡ round (constant n) (rounds n s)

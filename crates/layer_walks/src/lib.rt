@@ -38,8 +38,8 @@ pub fn layer_root(hashes: &Hashes, spot: Spot, hp: u32, sig: &[u8], m: &[u8]) ->
     }
 }
 
-// The topmost root, from all layers' parts of a seal, for the value m that the leaf pointed to seals; size is the number of a
-// tree's leaves, 2^h'.
+// The topmost root, from all layers' parts of a seal, for the value m that the leaf pointed to seals; size is the
+// number of a tree's leaves, 2^h'.
 pub fn layers_root(
     hashes: &Hashes,
     hp: u32,

@@ -19,8 +19,8 @@ use trees::paths::path_in;
 pub fn layer_seal_in(holder: &Holder, spot: Spot, hp: u32, m: &[u8], out: &mut [u8])
     requires { (holder.now.hashes.kit.n ≤ 32) × (length m.now ≡ holder.now.hashes.kit.n) × (spot.pair + 2 ^ hp ≤ 2 ^ 32)
         × (length out.old ≡ chains holder.now.hashes.kit.n * holder.now.hashes.kit.n + hp * holder.now.hashes.kit.n) }
-    ensures { out.new ≡ (layer_seal (ruled_hashes holder.now.hashes) hp holder.now.secret.now spot.layer spot.tree spot.pair
-        m.now).result }
+    ensures { out.new ≡ (layer_seal (ruled_hashes holder.now.hashes) hp holder.now.secret.now
+        spot.layer spot.tree spot.pair m.now).result }
 {
     let mut digits = [0u32; 67];
     let digits = &mut digits[..chain_count(holder.hashes.kit.n)];
@@ -40,10 +40,10 @@ pub fn layer_seal_in(holder: &Holder, spot: Spot, hp: u32, m: &[u8], out: &mut [
 pub fn layer_up_in(holder: &Holder, spot: Spot, hp: u32, m: &[u8], out: &mut [u8]) -> [u8; 32]
     requires { (holder.now.hashes.kit.n ≤ 32) × (length m.now ≡ holder.now.hashes.kit.n) × (spot.pair + 2 ^ hp ≤ 2 ^ 32)
         × (length out.old ≡ chains holder.now.hashes.kit.n * holder.now.hashes.kit.n + hp * holder.now.hashes.kit.n) }
-    ensures out_after { out.new ≡ (layer_seal (ruled_hashes holder.now.hashes) hp holder.now.secret.now spot.layer spot.tree spot.pair
-        m.now).result }
-    ensures result_value { take holder.now.hashes.kit.n result ≡ (layer_root (ruled_hashes holder.now.hashes) hp spot.layer spot.tree spot.pair out.new
-        m.now).result }
+    ensures out_after { out.new ≡ (layer_seal (ruled_hashes holder.now.hashes) hp holder.now.secret.now
+        spot.layer spot.tree spot.pair m.now).result }
+    ensures result_value { take holder.now.hashes.kit.n result
+        ≡ (layer_root (ruled_hashes holder.now.hashes) hp spot.layer spot.tree spot.pair out.new m.now).result }
 {
     layer_seal_in(holder, spot, hp, m, out);
     layer_root(&holder.hashes, spot, hp, out, m).value

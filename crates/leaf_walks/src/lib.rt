@@ -4,7 +4,7 @@
 ghost use Rattle.std.specs.Prelude.{◌≡◌, ◌*◌, ◌<◌, ◌^◌, length};
 ghost use Rattle.lists.specs.Below.{Below};
 ghost use Rattle.rules.specs.Calls.{Kind, Function};
-ghost use Rattle.rules.specs.Chains.{chains, walk, leaf_from};
+ghost use Rattle.rules.specs.Chains.{walk, leaf_from};
 ghost use Rattle.counts.specs.Counts.{count};
 ghost use Rattle.calls.specs.Hashes.{ruled_hashes};
 ghost use Rattle.climbs.specs.Leads.{Leads};

@@ -1,11 +1,10 @@
 // The key's own leaves (FIPS 205, algorithm 6).
 #![tactic(auto)]
 
-ghost use Rattle.std.specs.Prelude.{◌≡◌, ◌*◌, ◌<◌, ◌≤◌, ◌^◌, length, take};
-ghost use Rattle.lists.specs.Below.{Below};
+ghost use Rattle.std.specs.Prelude.{◌≡◌, ◌≤◌, take};
 ghost use Rattle.rules.specs.Places.{chain_ends, address};
 ghost use Rattle.rules.specs.Calls.{Function};
-ghost use Rattle.rules.specs.Chains.{shown, leaf as leaf_run};
+ghost use Rattle.rules.specs.Chains.{leaf as leaf_run};
 ghost use Rattle.calls.specs.Hashes.{ruled_hashes};
 
 use addresses::{PlaceKind, address_at};
@@ -25,7 +24,7 @@ pub fn compress(hashes: &Hashes, spot: Spot, ends: &[u8]) -> [u8; 32]
     )
 }
 
-// The leaf: every chain ends at position 15.
+// The leaf: every chain ends at position 15. Nothing is allocated, so the ends lie in a part of a local array.
 pub fn leaf(holder: &Holder, spot: Spot) -> [u8; 32]
     requires { holder.now.hashes.kit.n ≤ 32 }
     ensures { take holder.now.hashes.kit.n result ≡ (leaf_run (ruled_hashes holder.now.hashes)

@@ -8,7 +8,7 @@ use native.Mathlib.Numerals.{add-one}
 use native.Mathlib.Omega.{arith}
 use lib.ListN.{length, take, drop, get_or, set, length-append, length-drop, drop_of_length-le, take-append-drop}
 use lib.Seq.{take-suc, take-suc-set, take_all, take_at, length-take-le, drop-drop}
-use borrow.Rule.Slice.PartMut.{put_mid, same_len_mid, drop_put}
+use borrow.Rule.Slice.PartMut.{put_mid, drop_put}
 
 module _ {A : Type 0} where
   -- Where the first j elements agree, and the next is written as it should be, the first j + 1 agree.
@@ -29,21 +29,11 @@ module _ {A : Type 0} where
   pub rest_long : (m : ℕ) (l : List A) → m ≤ length l → length (take (length l - m) (drop m l)) + m ≡ length l
   rest_long m l h = ap (λ (x : List A). length x + m) (rest_read m l) ∙ omega (arith, length-drop m l)
 
-  -- What was written over the first m elements is the first m.
-  pub front_written : (m : ℕ) (l ys : List A) → length ys ≡ m → take m (put_mid 0 (m - 0) l ys) ≡ ys
-  front_written m l ys e = take_at ys _ m e
-
   -- What was written over the rest of a list, from element m on, follows the first m.
   pub rest_written : (m : ℕ) (l ys : List A) → put_mid m (length l - m) l ys ≡ take m l ++ ys
   rest_written m l ys =
       ap (λ (r : List A). take m l ++ (ys ++ r)) (drop_of_length-le (drop m l) (le_of_eq (length-drop m l)))
       ∙ ap (λ (r : List A). take m l ++ r) (append-nil ys)
-
-  -- A list whose first m elements and whose rest were lent, one after the other, is what they came back as.
-  pub both_written : (m : ℕ) (l xs ys : List A) → length xs ≡ m
-      → put_mid m (length (put_mid 0 (m - 0) l xs) - m) (put_mid 0 (m - 0) l xs) ys ≡ xs ++ ys
-  both_written m l xs ys e =
-      rest_written m (put_mid 0 (m - 0) l xs) ys ∙ ap (λ (x : List A). x ++ ys) (front_written m l xs e)
 
   -- A part of n elements at `at` that was lent and came back as ys: what precedes it, and then ys.
   pub part_written : (at n : ℕ) (l ys : List A) → at + n ≤ length l → length ys ≡ n
@@ -58,11 +48,6 @@ module _ {A : Type 0} where
   lent_length at n l h =
       let k : at + n - at ≡ n = omega arith in
       rw k (length-take-le n (drop at l) (simp length-drop (omega arith)))
-
-  -- The whole keeps its length.
-  pub part_length_lem : (at n : ℕ) (l ys : List A) → at + n ≤ length l → length ys ≡ n
-      → length (put_mid at (at + n - at) l ys) ≡ length l
-  part_length_lem at n l ys h e = same_len_mid at (at + n - at) l ys (e ∙ sym (lent_length at n l h))
 
   -- What follows the part stays.
   pub part_rest : (at n : ℕ) (l ys : List A) → at + n ≤ length l → length ys ≡ n

@@ -2,10 +2,10 @@
 -- Assumes nothing.
 use mathlib.Core.Path.{◌≡◌, refl, sym, ap, ◌∙◌}
 use mathlib.Core.List.{List, [], ◌∷◌, ◌++◌}
-use Prim.Native.Nat.{ℕ, zero, suc, ◌+◌, ◌-◌, ◌*◌, ◌≤◌, ◌<◌}
-use native.Mathlib.Nat.{suc-ne-zero, suc-mul, add_comm, mul-le-mul_right, sub-zero, zero-add, suc-add}
+use Prim.Native.Nat.{ℕ, zero, suc, ◌+◌, ◌*◌, ◌≤◌, ◌<◌}
+use native.Mathlib.Nat.{suc-ne-zero, suc-mul, add_comm, mul-le-mul_right, zero-add, suc-add}
 use native.Mathlib.Omega.{arith}
-use lib.ListN.{length, take, drop, replicate, length-drop, length-replicate}
+use lib.ListN.{length, take, drop, length-drop}
 use lib.Seq.{take_at, drop_at, take-take, take-nil, length-take-le, drop-drop}
 
 module _ {A : Type 0} where
@@ -47,18 +47,6 @@ module _ {A : Type 0} where
   piece_suc n j a b e =
       ap (λ (x : ℕ). drop x (a ++ b)) (suc-mul j n ∙ add_comm (j * n) n)
       ∙ sym (drop-drop (j * n) n (a ++ b)) ∙ ap (drop (j * n)) (drop_at a b n e)
-
--- The first n of k equal numbers, as a part that starts at 0 is written.
-pub same_part : (x n k : ℕ) → n ≤ k → take (n - 0) (replicate k x) ≡ replicate n x
-same_part x n k h = ap (λ (m : ℕ). take m (replicate k x)) (sub-zero n) ∙ same_front n k h
-  where
-    same_front : (n k : ℕ) → n ≤ k → take n (replicate k x) ≡ replicate n x
-    same_front zero k h = refl
-    same_front (suc n) zero h = absurd (omega arith)
-    same_front (suc n) (suc k) h = ap (λ (l : List ℕ). x ∷ l) (same_front n k (omega arith))
-
-pub zeros_part : (n k : ℕ) → n ≤ k → length {A = ℕ} (take (n - 0) (replicate k 0)) ≡ n
-zeros_part n k h = ap length (same_part 0 n k h) ∙ length-replicate n 0
 
 -- A front part that was lent and filled with g of its length.
 pub front_part : (g : ℕ → List ℕ) (n : ℕ) {m : ℕ} {ys : List ℕ} (rest : List ℕ) → ys ≡ g m → length ys ≡ m → m ≡ n

@@ -5,12 +5,11 @@ ghost use Rattle.std.specs.Prelude.{◌≡◌};
 ghost use Rattle.std.proofs.Math.Option.{some};
 ghost use Rattle.rules.specs.Sets.{row_of};
 ghost use Rattle.rows.specs.Rows.{ruled_row};
-ghost use Rattle.rows.specs.Ready.{Ready};
 ghost use Rattle.answers.specs.Answers.{number};
 ghost use Rattle.answers.specs.Lines.{first};
 ghost use Rattle.making.specs.Keys.{keys_lines, KeysMade};
 
-use answers::{Answer, Refusal, demand, known_row};
+use answers::{Answer, Refusal, demand, known_set};
 use keys::keys_in;
 use rows::Row;
 
@@ -40,15 +39,15 @@ pub fn make_keys(
         public_seed.now public.old secret.old result public.new
         secret.new }
 {
-    let row = known_row(set)?;
+    let known = known_set(set)?;
     keys_answer(
-        row,
+        known.row,
         secret_seed.len(),
         prf_seed.len(),
         public_seed.len(),
         public.len(),
         secret.len(),
     )?;
-    keys_in(row, secret_seed, prf_seed, public_seed, public, secret);
+    keys_in(known, secret_seed, prf_seed, public_seed, public, secret);
     Ok(())
 }

@@ -14,9 +14,8 @@ use Rattle.rules.proofs.SetLaws.{row_of_legal}
 use Rattle.rules.specs.Seal.{part, part_start, part_length}
 use Rattle.answers.specs.Answers.{number, settled}
 use Rattle.answers.specs.declared.Refusal.{Refusal}
-use Rattle.part_reading.specs.Parts.{part_lines, part_answer, part_given, start_given, length_given}
+use Rattle.part_reading.specs.Parts.{part_lines, part_answer, part_given, start_given, length_given, Located}
 use Rattle.part_reading.specs.declared.Extent.{Extent}
-use Rattle.part_reading.specs.Parts.{Located}
 use Rattle.answers.proofs.LineLaws.{none_applies}
 use Rattle.answers.proofs.AnswerLaws.{settled_made, refusal_keeps}
 

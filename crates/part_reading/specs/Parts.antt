@@ -11,8 +11,8 @@ use Rattle.answers.specs.Tests.{equal, within, known, under}
 use Rattle.answers.specs.Lines.{Line, line, first}
 use Rattle.answers.specs.declared.Refusal.{Refusal}
 use Rattle.part_reading.specs.declared.Extent.{Extent}
-use Rattle.part_reading.specs.declared.Kind.{Kind}
-use Rattle.part_reading.specs.declared.Kind.TheVariants.{Randomizer, Forest, Layer}
+use Rattle.part_reading.specs.declared.PartKind.{PartKind}
+use Rattle.part_reading.specs.declared.PartKind.TheVariants.{Randomizer, Forest, Layer}
 
 -- Under the row of the set, if it has one: how many bytes a seal has, and the part's number.
 abbrev pub part_lines : Option Row → (seal number : ℕ) → List Line
@@ -45,7 +45,7 @@ module _ (row : Option Row) (seal : Bytes) (number : ℕ) where
 -- ---- For the code
 
 -- The number of the part of a kind.
-abbrev pub kind_number : Kind → ℕ
+abbrev pub kind_number : PartKind → ℕ
 kind_number Randomizer = 0
 kind_number Forest = 1
 kind_number (Layer j) = suc (suc j)

@@ -63,8 +63,7 @@ fn round(s: &mut [u64; 25], c: u64)
     let a = theta(s);
     let b = rho(&a);
     let d = pi(&b);
-    let e = chi(&d);
-    *s = e;
+    *s = chi(&d);
     s[0] ^= c;
 }
 

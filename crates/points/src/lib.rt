@@ -1,7 +1,7 @@
 // Where a message digest points (FIPS 205, algorithms 19, lines 6 to 10, and 20, lines 9 to 13).
 #![tactic(auto)]
 
-ghost use Rattle.std.specs.Prelude.{◌≡◌, ◌++◌, ◌≤◌, length};
+ghost use Rattle.std.specs.Prelude.{◌≡◌, ◌≤◌, length};
 ghost use Rattle.message_calls.specs.Framed.{joined};
 ghost use Rattle.rules.specs.Digest.{last_bits, pointed};
 ghost use Rattle.rules.specs.Seal.{digest_of};
@@ -40,7 +40,7 @@ fn point(set: Set, digest: &[u8], indices: &mut [u32]) -> Pointed
     Pointed { tree, leaf }
 }
 
-// Where a framed message, in three pieces, points with its randomizer under a key.
+// Where a framed message points with its randomizer under a key.
 pub fn aim(
     set: Set,
     r: &[u8],
@@ -51,8 +51,7 @@ pub fn aim(
 ) -> Pointed
     requires { length indices.old ≡ set.row.k }
     ensures { at result indices.new ≡ pointed (ruled_row set.row) (digest_of (ruled_row set.row)
-        (family_for (ruled_row set.row)) r.now seed.now root.now
-        (joined framed.now)).result }
+        (family_for (ruled_row set.row)) r.now seed.now root.now (joined framed.now)).result }
 {
     let mut digest = [0; 64];
     let digest = &mut digest[..set.row.m];

@@ -1,7 +1,7 @@
 // The randomizer of a seal, and where the message points with it (FIPS 205, algorithm 19, lines 2 to 10).
 #![tactic(auto)]
 
-ghost use Rattle.std.specs.Prelude.{◌≡◌, ◌++◌, length};
+ghost use Rattle.std.specs.Prelude.{◌≡◌, length};
 ghost use Rattle.message_calls.specs.Framed.{joined};
 ghost use Rattle.randomizers.specs.Mixed.{chosen};
 ghost use Rattle.rules.specs.Digest.{pointed};
@@ -37,8 +37,7 @@ fn randomizer_of_in<'a>(
 )
     requires { length out.old ≡ set.row.n }
     ensures { out.new ≡ (randomizer_of (ruled_row set.row) (family_for (ruled_row set.row)) prf.now
-        (mixed_in random.now seed.now)
-        (joined framed.now)).result }
+        (mixed_in random.now seed.now) (joined framed.now)).result }
 {
     let kit = kit_of(set.row);
     let mixed = mixed_in(random, seed);
@@ -58,11 +57,9 @@ pub fn randomized_aim<'a>(
 ) -> Pointed
     requires { (length indices.old ≡ set.row.k) × (length out.old ≡ set.row.n) }
     ensures out_after { out.new ≡ (randomizer_of (ruled_row set.row) (family_for (ruled_row set.row)) prf.now
-        (mixed_in random.now seed.now)
-        (joined framed.now)).result }
+        (mixed_in random.now seed.now) (joined framed.now)).result }
     ensures aimed { at result indices.new ≡ pointed (ruled_row set.row) (digest_of (ruled_row set.row)
-        (family_for (ruled_row set.row)) out.new seed.now root.now
-        (joined framed.now)).result }
+        (family_for (ruled_row set.row)) out.new seed.now root.now (joined framed.now)).result }
 {
     randomizer_of_in(set, prf, random, seed, framed, out);
     aim(set, out, seed, root, framed, indices)

@@ -1,5 +1,5 @@
-// The root that a seal leads to where its digest points (FIPS 205, algorithm 20, lines 14 to 17), under a row that is
-// ready, with the F calls counted.
+// The root that a seal leads to where its digest points (FIPS 205, algorithm 20, lines 14 to 17), under a set,
+// with the F calls counted.
 #![tactic(auto)]
 
 ghost use Rattle.std.specs.Prelude.{◌≡◌, ◌^◌, length};

@@ -2,13 +2,12 @@
 -- layers'; and the sizes of values of at most 32 bytes.
 -- Assumes nothing.
 use mathlib.Core.Path.{◌≡◌, ap₂}
-use Prim.Native.Nat.{ℕ, ◌+◌, ◌-◌, ◌*◌, ◌^◌, ◌≤◌, ◌<◌}
+use Prim.Native.Nat.{ℕ, ◌+◌, ◌-◌, ◌*◌, ◌^◌, ◌≤◌}
 use native.Mathlib.Nat.{mul-le-mul, mul-le-mul_left, mul-le-mul_right, le_trans, zero-mul}
 use native.Mathlib.Omega.{arith}
 use lib.ListN.{length, take, drop}
 use lib.Pow.{pow_mono}
 use Rattle.rules.specs.Places.{Bytes}
-use Rattle.rules.specs.Chains.{chains}
 use Rattle.rules.specs.Layers.{layer_bytes, chain_bytes}
 use Rattle.rules.specs.Forest.{tree_bytes, forest_bytes}
 use Rattle.rules.specs.Sets.{Row}
@@ -23,9 +22,6 @@ module _ (r : Row) (ready : Ready r) where
   tree_room : r.n + r.a * r.n ≤ 544
   tree_room = omega (arith, ready.fit.values, mul-le-mul ready.fit.digits ready.fit.values)
 
-  pub forest_room : forest_size r ≤ 19040
-  forest_room = mul-le-mul ready.fit.trees tree_room
-
   -- All leaves of the forest, and two trees of a layer, are counted in 32 bits.
   pub forest_leaves : (r.k + 1) * 2 ^ r.a ≤ 36 * 2 ^ 16
   forest_leaves =
@@ -34,13 +30,6 @@ module _ (r : Row) (ready : Ready r) where
 
   pub layer_leaves : 2 ^ r.h' ≤ 2 ^ 16
   layer_leaves = pow_mono ready.fit.heights
-
-  -- A layer's part is small.
-  pub layer_room : layer_size r ≤ 2656
-  layer_room =
-      let many : chains r.n ≤ 67 = omega (arith, ready.fit.values) in
-      let chained : chains r.n * r.n ≤ 67 * 32 = mul-le-mul many ready.fit.values in
-      omega (arith, mul-le-mul ready.fit.heights ready.fit.values)
 
   pub seal_size : r.seal_bytes ≡ r.n + forest_size r + r.d * layer_size r
   unfolding forest_bytes tree_bytes layer_bytes chain_bytes
@@ -60,16 +49,6 @@ size_fits n h = le_trans (mul-le-mul_right {m = 2 * n + 3} {n = 67} n (omega ari
 -- The roots of at most 35 trees fit 35 values of 32 bytes.
 pub wood_fits : (k n : ℕ) → k ≤ 35 → n ≤ 32 → k * n ≤ 1120
 wood_fits k n h l = le_trans (mul-le-mul_left k l) (mul-le-mul_right {m = k} {n = 35} 32 h)
-
--- A row's height times its n fits a word.
-pub small_product : (a n : ℕ) → a < 2 ^ 32 → n ≤ 32 → a * n ≤ 2 ^ 32 * 32
-small_product a n h l = le_trans (mul-le-mul_left a l) (mul-le-mul_right {m = a} {n = 2 ^ 32} 32 (omega arith))
-
--- The parts of at most 35 trees fit a word.
-pub trees_fit : (k n a : ℕ) → k ≤ 35 → a < 2 ^ 32 → n ≤ 32 → k * (n + a * n) ≤ 35 * (32 + 2 ^ 32 * 32)
-trees_fit k n a h g l =
-    let tree : n + a * n ≤ 32 + 2 ^ 32 * 32 = omega (arith, small_product a n g l) in
-    mul-le-mul h tree
 
 -- ---- The pieces of a key, as code lends them
 

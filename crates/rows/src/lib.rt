@@ -52,7 +52,8 @@ const ROWS: [Row; 2] = [
     },
 ];
 
-// The row of a set number.
+// The row of a set number, by a match with a default that refuses.
+#[tactic(auto, unfolding(rules::specs::Sets::row_of, rules::specs::Sets::find, rules::specs::Sets::rows))]
 pub fn find_row(set: u32) -> Option<Row>
     ensures { ruled result ≡ row_of set }
 {

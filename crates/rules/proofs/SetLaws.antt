@@ -70,10 +70,6 @@ find_next number q rs other = by_test (eqb number q.number) refl
     by_test true h = absurd (other (eqb→eq number q.number (subst T (sym h) tt)))
     by_test false h = refl
 
-pub find_end : (number : ℕ) → find number [] ≡ none
-unfolding find
-find_end number = refl
-
 pub row_of_passes : (test : Row → Bool) → T (every test rows) → (number : ℕ) (r : Row) → row_of number ≡ some r
     → (r.number ≡ number) × T (test r)
 unfolding row_of

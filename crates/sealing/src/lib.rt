@@ -9,7 +9,8 @@ ghost use Rattle.answers.specs.Answers.{number};
 ghost use Rattle.answers.specs.Lines.{first};
 ghost use Rattle.sealing.specs.Seals.{seal_lines, Sealed};
 
-use answers::{Answer, MESSAGE_LIMIT, Refusal, demand, known_row};
+use answers::{Answer, MESSAGE_LIMIT, Refusal, demand, known_set};
+use message_calls::Framed;
 use rows::Row;
 use seals::seal_in;
 
@@ -36,9 +37,20 @@ pub fn seal<'a>(
     ensures { Sealed (row_of set) secret.now message.now random.now
         out.old result out.new }
 {
-    let row = known_row(set)?;
-    seal_answer(row, secret.len(), message.len(), random.len(), out.len())?;
+    let known = known_set(set)?;
+    seal_answer(
+        known.row,
+        secret.len(),
+        message.len(),
+        random.len(),
+        out.len(),
+    )?;
     let head = [0u8; 2];
-    seal_in(row, secret, &head, b"", message, random, out);
+    let framed = Framed {
+        head: &head,
+        context: b"",
+        message,
+    };
+    seal_in(known, secret, &framed, random, out);
     Ok(())
 }

@@ -1,7 +1,7 @@
-// Seals (FIPS 205, algorithm 19), under a row that is ready.
+// Seals (FIPS 205, algorithm 19), under a set.
 #![tactic(auto)]
 
-ghost use Rattle.std.specs.Prelude.{◌≡◌, ◌++◌, length};
+ghost use Rattle.std.specs.Prelude.{◌≡◌, length};
 ghost use Rattle.message_calls.specs.Framed.{joined};
 ghost use Rattle.rules.specs.Seal.{seal_of};
 ghost use Rattle.rows.specs.Rows.{ruled_row};
@@ -11,15 +11,9 @@ use message_calls::Framed;
 use rows::sets::Set;
 use seal_writes::seal_over;
 
-// The seal of a framed message, in three pieces. A secret key is secret seed, prf seed, public seed and root.
+// The seal of a framed message. A secret key is secret seed, prf seed, public seed and root.
 #[tactic(auto, unfolding(rules::specs::Seal::seal_of))]
-pub fn seal_in<'a>(
-    set: Set,
-    secret: &'a [u8],
-    framed: &Framed,
-    random: &'a [u8],
-    out: &mut [u8],
-)
+pub fn seal_in<'a>(set: Set, secret: &'a [u8], framed: &Framed, random: &'a [u8], out: &mut [u8])
     requires { (length secret.now ≡ set.row.secret) × (length out.old ≡ set.row.seal) }
     ensures { out.new ≡ (seal_of (ruled_row set.row) (family_for (ruled_row set.row)) secret.now
         random.now (joined framed.now)).result }

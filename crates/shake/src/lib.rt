@@ -11,8 +11,9 @@ use absorbing::Sponge;
 // The rate in bytes: 1600 - 512 bits.
 const RATE: usize = 136;
 
-// The sponge at SHAKE256's rate. Any lanes and any place are one.
-#[derive(Drop)]
+// The sponge at SHAKE256's rate, with any lanes and any place. Its methods say what the sponge's say at that rate, so
+// that callers go by no other.
+#[derive(Clone, Copy)]
 pub struct Shake256 {
     pub sponge: Sponge<RATE>,
 }

@@ -23,7 +23,8 @@ pub fn layers_seal_in(
     m: [u8; 32],
     out: &mut [u8],
 )
-    requires { Stack holder.now.hashes.kit.n hp size d (length out.old) × (size + size ≤ 2 ^ 32) × (pointed.leaf < size) }
+    requires { Stack holder.now.hashes.kit.n hp size d (length out.old) × (size + size ≤ 2 ^ 32)
+        × (pointed.leaf < size) }
     ensures { out.new ≡ (layers_seal (ruled_hashes holder.now.hashes) hp holder.now.secret.now (d - 1) 0
         pointed.tree pointed.leaf (take holder.now.hashes.kit.n m)).result }
 {

@@ -20,7 +20,8 @@ use rows::sizes::tree_bytes;
 // The root of a forest's tree, from its secret value and its path, at leaf i of all trees.
 fn tree_root(hashes: &Hashes, pointed: Pointed, a: u32, i: u32, part: &[u8]) -> Walked
     requires { (hashes.now.kit.n ≤ 32) × (length part.now ≡ hashes.now.kit.n + a * hashes.now.kit.n) }
-    ensures { Leads hashes.now.kit.n (tree_run (ruled_hashes hashes.now) pointed.tree pointed.leaf a i part.now) result }
+    ensures { Leads hashes.now.kit.n (tree_run (ruled_hashes hashes.now)
+        pointed.tree pointed.leaf a i part.now) result }
 {
     let n = hashes.kit.n;
     let leaf = hashes.f(
@@ -51,10 +52,10 @@ pub fn roots_in(
     requires sizes { (hashes.now.kit.n ≤ 32) × (size ≡ 2 ^ a) × (length ds.now * size < 2 ^ 32) × Below size ds.now }
     requires lent_len { (length sig.now ≡ length ds.now * (hashes.now.kit.n + a * hashes.now.kit.n))
         × (length out.old ≡ length ds.now * hashes.now.kit.n) × (length ds.now ≤ 35) }
-    ensures out_after { out.new ≡ (forest_walk (ruled_hashes hashes.now) pointed.tree pointed.leaf a 0
-        ds.now sig.now).result }
-    ensures f_calls { result ≡ count (Kind.of Function.F) (forest_walk (ruled_hashes hashes.now) pointed.tree pointed.leaf a 0
-        ds.now sig.now).calls }
+    ensures out_after { out.new ≡ (forest_walk (ruled_hashes hashes.now)
+        pointed.tree pointed.leaf a 0 ds.now sig.now).result }
+    ensures f_calls { result ≡ count (Kind.of Function.F) (forest_walk (ruled_hashes hashes.now)
+        pointed.tree pointed.leaf a 0 ds.now sig.now).calls }
 {
     let n = hashes.kit.n;
     let step = tree_bytes(n, a);

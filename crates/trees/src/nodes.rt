@@ -63,8 +63,7 @@ pub fn node(holder: &Holder, grove: Grove, z: u32, i: u32) -> [u8; 32]
     } else {
         let left = node(holder, grove, z - 1, 2 * i);
         let right = node(holder, grove, z - 1, 2 * i + 1);
-        holder
-            .hashes
-            .h(node_address(grove, z, i), &left[..n], &right[..n])
+        let hashes = &holder.hashes;
+        hashes.h(node_address(grove, z, i), &left[..n], &right[..n])
     }
 }

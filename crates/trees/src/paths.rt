@@ -18,7 +18,8 @@ fn sibling(j: u32) -> u32
 
 // The siblings from leaf i on, count heights, from the bottom up.
 pub fn path_in(holder: &Holder, grove: Grove, count: u32, i: u32, out: &mut [u8])
-    requires { (holder.now.hashes.kit.n ≤ 32) × (length out.old ≡ count * holder.now.hashes.kit.n) × (i + 2 ^ count ≤ 2 ^ 32) }
+    requires { (holder.now.hashes.kit.n ≤ 32) × (length out.old ≡ count * holder.now.hashes.kit.n)
+        × (i + 2 ^ count ≤ 2 ^ 32) }
     ensures { out.new ≡ (path (ruled_hashes holder.now.hashes)
         (tree_of (ruled_hashes holder.now.hashes) holder.now.secret.now grove) count 0 i).result }
 {

@@ -35,7 +35,7 @@ fn keys(rt: &impl Print, set: u32, public: &mut [u8], secret: &mut [u8]) -> io::
 fn check(rt: &impl Print, public: &[u8], seal: &[u8]) -> io::Result<()> {
     let verdict = checking::check(2, public, b"abc", seal);
     let given = verdict.answer;
-    line(rt, given, verdict.calls as u64, seal)
+    line(rt, given, u64::from(verdict.calls), seal)
 }
 
 fn seal<'a>(
@@ -58,9 +58,9 @@ fn forest(rt: &impl Print, seal: &[u8]) -> io::Result<()> {
 // A seal cut short, and with its first byte flipped.
 fn damage(rt: &impl Print, public: &[u8], seal: &mut [u8]) -> io::Result<()> {
     let end = seal.len() / 2;
-    check(rt, public, &seal[0..end])?;
+    check(rt, public, &seal[..end])?;
     if 0 < end {
-        seal[0] = seal[0] ^ 255;
+        seal[0] ^= 255;
         check(rt, public, seal)?;
     }
     Ok(())
@@ -73,16 +73,12 @@ fn seals(rt: &impl Print, public: &[u8], secret: &[u8], out: &mut [u8]) -> io::R
     damage(rt, public, out)
 }
 
-fn wide(x: u32) -> u64 {
-    x as u64
-}
-
 // A digit of the checksum, on which all others bear, and the value.
 fn digits(rt: &impl Print, set: u32) -> io::Result<()> {
     let value = [0x57u8; 16];
     let mut numbers = [0u32; 35];
     let given = digit_reading::chain_digits(set, &value, &mut numbers);
-    line(rt, given, wide(numbers[33]), &value)
+    line(rt, given, u64::from(numbers[33]), &value)
 }
 
 fn main(rt: HostRuntime) -> io::Result<()> {

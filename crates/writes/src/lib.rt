@@ -1,4 +1,5 @@
-// What sealing writes after the randomizer (FIPS 205, algorithm 19, lines 11 to 17), under a row that is ready.
+// What sealing writes after the randomizer (FIPS 205, algorithm 19, lines 11 to 17), under a set. Seeds come one by
+// one, since the kit of a `Holder` would have to be the set's.
 #![tactic(auto)]
 
 ghost use Rattle.std.specs.Prelude.{◌≡◌, ◌+◌, ◌-◌, ◌*◌, ◌^◌, ◌<◌, length, take};
@@ -39,10 +40,7 @@ fn forest_up_in(
     let kit = kit_of(set.row);
     let hashes = Hashes { kit, seed };
     let holder = Holder { hashes, secret: sk };
-    forest_seal_in(&holder, pointed, set.row.a,
-        indices,
-        out,
-    );
+    forest_seal_in(&holder, pointed, set.row.a, indices, out);
     forest_root(&hashes, pointed, set.row.a, indices, out).value
 }
 
@@ -56,13 +54,7 @@ fn layers_in(set: Set, seed: &[u8], sk: &[u8], pointed: Pointed, m: [u8; 32], ou
     let hashes = Hashes { kit, seed };
     let holder = Holder { hashes, secret: sk };
     let size = 1u64 << set.row.hp;
-    layers_seal_in(&holder, set.row.hp,
-        size,
-        set.row.d,
-        pointed,
-        m,
-        out,
-    );
+    layers_seal_in(&holder, set.row.hp, size, set.row.d, pointed, m, out);
 }
 
 // What follows the randomizer, where the digest points (lines 11 to 17).
@@ -76,7 +68,8 @@ pub fn written_in(
     out: &mut [u8],
 )
     requires lent_len { length out.old + set.row.n ≡ set.row.seal }
-    requires aim_fits { (length indices.now ≡ set.row.k) × Below (2 ^ set.row.a) indices.now × (pointed.leaf < 2 ^ set.row.hp) }
+    requires aim_fits { (length indices.now ≡ set.row.k) × Below (2 ^ set.row.a) indices.now
+        × (pointed.leaf < 2 ^ set.row.hp) }
     ensures { out.new ≡ (written (ruled_row set.row) (family_for (ruled_row set.row)) sk.now
         seed.now (at pointed indices.now)).result }
 {

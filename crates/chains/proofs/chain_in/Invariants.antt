@@ -9,7 +9,7 @@ use Rattle.chains.proofs.chain_in.Given as goal
 
 abbrev pub invariant-loop-k : goal.invariant-loop-k
 invariant-loop-k l =
-    (chain (ruled_hashes l.hashes) (chain_step l.spot.layer l.spot.tree l.spot.pair l.c)
+    (chain (ruled_hashes l.hashes) (chain_step l.layer l.tree l.pair l.c)
     l.io (l.start + l.k) (l.steps - l.k)).result
-    ≡ (chain (ruled_hashes l.hashes) (chain_step l.spot.layer l.spot.tree l.spot.pair l.c)
+    ≡ (chain (ruled_hashes l.hashes) (chain_step l.layer l.tree l.pair l.c)
     l.initial.io l.start l.steps).result

@@ -1,7 +1,6 @@
 -- `checked_root` reads where the message points and walks from there.
 -- Assumes nothing.
 use mathlib.Core.Path.{◌∙◌}
-use mathlib.Core.List.{◌++◌}
 use Rattle.message_calls.specs.Framed.{joined}
 use Rattle.rows.specs.Rows.{ruled_row}
 use Rattle.calls.specs.Hashes.{family_for}

@@ -19,7 +19,8 @@ roots_in-calls-requires c =
       sizes = (wood.small, e, rw e wood.leaves, rw e c.requires.1);
       lent_len = (
         wood.sig_long,
-        length-take-le size (replicate 1120 0) (wood_fits (length c.args.ds.now) c.args.hashes.now.kit.n wood.few wood.small),
+        length-take-le size (replicate 1120 0) (wood_fits (length c.args.ds.now) c.args.hashes.now.kit.n wood.few
+            wood.small),
         wood.few,
       );
     }

@@ -23,7 +23,8 @@ loop-j-preserved c =
     let next : (l.j + 1) * step ≡ at + length ys = search (arith, common_steps) in
     let first : l.j * 2 ^ a.a < 2 ^ 32 = search (arith, common_steps) in
     rw (take-put_mid at _ l.out ys _ next room)
-    (forest_turn (ruled_hashes a.holder.now.hashes) a.pointed.tree a.pointed.leaf a.a a.holder.now.secret.now a.ds.now l.j _
+    (forest_turn (ruled_hashes a.holder.now.hashes) a.pointed.tree a.pointed.leaf a.a a.holder.now.secret.now a.ds.now
+    l.j _
     (take at l.out) ys c.loop-j-test.true (mod-eq_of_lt first) c.tree_seal_in.ensures l.invariant)
 
 pub returns : goal.returns
@@ -32,5 +33,6 @@ returns c =
     let a = c.args in
     let at = l.j * c.tree_bytes-step.result in
     let full : length l.out ≤ at = search (arith, common_steps) in
-    forest_end (ruled_hashes a.holder.now.hashes) a.pointed.tree a.pointed.leaf a.a a.holder.now.secret.now a.ds.now l.j l.out
+    forest_end (ruled_hashes a.holder.now.hashes) a.pointed.tree a.pointed.leaf a.a a.holder.now.secret.now a.ds.now
+    l.j l.out
     c.loop-j-test.false (rw (take_all at l.out full) at l.invariant)

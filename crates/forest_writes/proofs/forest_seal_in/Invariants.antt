@@ -11,5 +11,6 @@ use Rattle.forest_writes.proofs.forest_seal_in.Given as goal
 abbrev pub invariant-loop-j : goal.invariant-loop-j
 invariant-loop-j l =
     take (l.j * l.step) l.out
-    ++ (forest_seal (ruled_hashes l.holder.hashes) l.pointed.tree l.pointed.leaf l.a l.holder.secret.now l.j (drop l.j l.ds)).result
+    ++ (forest_seal (ruled_hashes l.holder.hashes) l.pointed.tree l.pointed.leaf l.a l.holder.secret.now l.j
+    (drop l.j l.ds)).result
     ≡ (forest_seal (ruled_hashes l.holder.hashes) l.pointed.tree l.pointed.leaf l.a l.holder.secret.now 0 l.ds).result

@@ -8,7 +8,11 @@ use Rattle.keys.proofs.key_root.Goals as goal
 
 pub node-requires : goal.node-requires
 node-requires c =
-    rw c.kit_of-kit.ensures (c.args.set.ready.fit.values, omega (arith, layer_leaves (ruled_row c.args.set.row) c.args.set.ready))
+    rw c.kit_of-kit.ensures (
+      c.args.set.ready.fit.values,
+      omega
+          (arith, layer_leaves (ruled_row c.args.set.row) c.args.set.ready),
+    )
 
 pub returns : goal.returns
 returns c =

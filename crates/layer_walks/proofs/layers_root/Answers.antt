@@ -31,7 +31,8 @@ overflow_add-calls c =
     let up = c.layer_root-up.ensures in
     omega (
       arith,
-      up_turn_calls w a.hp a.d l.j l.t l.k (l.j * step.result) a.size step.result (take a.hashes.now.kit.n l.value) a.sig.now
+      up_turn_calls w a.hp a.d l.j l.t l.k (l.j * step.result) a.size step.result (take a.hashes.now.kit.n l.value)
+          a.sig.now
           _ c.loop-j-test.true c.requires.leaves step.ensures up.value_is up.counted,
       up_most w a.hp a.d 0 a.pointed.tree a.pointed.leaf (take a.hashes.now.kit.n a.m) a.sig.now c.requires.small,
       c.requires.few,

@@ -14,9 +14,11 @@ abbrev pub invariant-loop-j : goal.invariant-loop-j
 invariant-loop-j l = record {
   led : (up_run (ruled_hashes l.hashes) l.hp (l.d - l.j) l.j l.t l.k
       (take l.n l.value) (drop (l.j * l.step) l.sig)).result
-      ≡ (up_run (ruled_hashes l.hashes) l.hp l.d 0 l.fn.pointed.tree l.fn.pointed.leaf (take l.n l.initial.value) l.sig).result;
+      ≡ (up_run (ruled_hashes l.hashes) l.hp l.d 0 l.fn.pointed.tree l.fn.pointed.leaf (take l.n l.initial.value)
+      l.sig).result;
   counted : l.calls + count (of F) (up_run (ruled_hashes l.hashes) l.hp (l.d - l.j) l.j l.t l.k
       (take l.n l.value) (drop (l.j * l.step) l.sig)).calls
-      ≡ count (of F) (up_run (ruled_hashes l.hashes) l.hp l.d 0 l.fn.pointed.tree l.fn.pointed.leaf (take l.n l.initial.value) l.sig).calls;
+      ≡ count (of F) (up_run (ruled_hashes l.hashes) l.hp l.d 0 l.fn.pointed.tree l.fn.pointed.leaf
+      (take l.n l.initial.value) l.sig).calls;
   long : length l.value ≡ 32;
 }

@@ -14,7 +14,8 @@ shown_in-requires c =
     let a = c.args in
     let read = c.chain_digits.ensures in
     let many = ap length read ∙ length-chain_digits _ a.m.now ∙ ap chains c.requires.1 in (
-      c.split_at_mut-shown.ensures.front_len ∙ c.chain_bytes.ensures ∙ ap (λ x. x * a.holder.now.hashes.kit.n) (sym many),
+      c.split_at_mut-shown.ensures.front_len ∙ c.chain_bytes.ensures
+          ∙ ap (λ x. x * a.holder.now.hashes.kit.n) (sym many),
       omega (arith, many, c.requires.0),
       rw read (chain_digits_below _ a.m.now),
     )

@@ -47,7 +47,8 @@ returns c =
     let w = ruled_hashes a.hashes.now in
     let full : length l.io ≤ l.i * a.hashes.now.kit.n = grind arith in
     record {
-      io_after = walk_end w a.spot.layer a.spot.tree a.spot.pair a.ds.now l.i l.io (drop (l.i * a.hashes.now.kit.n) l.io)
+      io_after = walk_end w a.spot.layer a.spot.tree a.spot.pair a.ds.now l.i l.io
+          (drop (l.i * a.hashes.now.kit.n) l.io)
           c.loop-i-test.false (rw (take_all (l.i * a.hashes.now.kit.n) l.io full) at l.invariant.walked);
       f_calls = (omega (arith, steps_end a.ds.now l.i c.loop-i-test.false))
           ∙ walk_calls w a.spot.layer a.spot.tree a.spot.pair a.ds.now a.io.now;

@@ -7,20 +7,20 @@ use Rattle.answers.proofs.LineLaws.{unknown_given, none_applies}
 use Rattle.making.proofs.MakingLaws.{keys_done, keys_refused}
 use Rattle.making.proofs.make_keys.Goals as goal
 
-pub returns-in_err-row : goal.returns-in_err-row
-returns-in_err-row c =
+pub returns-in_err-known : goal.returns-in_err-known
+returns-in_err-known c =
     let result = err_from_is_err_and c.from_residual.result c.from_residual.ensures.1 in
-    rw (result.1, result.2) (keys_refused _ (unknown_given _ c.in_err-row.ensures.unknown))
+    rw (result.1, result.2) (keys_refused _ (unknown_given _ c.in_err-known.ensures.unknown))
 
 pub returns-in_err-keys_answer : goal.returns-in_err-keys_answer
 returns-in_err-keys_answer c =
     let refused = keys_refused _ c.in_err-keys_answer.ensures in
-    search (rules, c.in_ok-row.ensures.known, refused)
+    search (rules, c.in_ok-known.ensures.known, refused)
 
-pub keys_in-requires-clause-ready : goal.keys_in-requires-clause-ready
-keys_in-requires-clause-ready c =
+pub keys_in-requires-clause-seeds_len : goal.keys_in-requires-clause-seeds_len
+keys_in-requires-clause-seeds_len c =
     let (_, (sk, (prf, (pk, _)))) = none_applies _ refl c.in_ok-keys_answer.ensures in
-    (c.in_ok-row.ensures.ready, sk _ refl, prf _ refl, pk _ refl)
+    (sk _ refl, prf _ refl, pk _ refl)
 
 pub keys_in-requires-clause-keys_len : goal.keys_in-requires-clause-keys_len
 keys_in-requires-clause-keys_len c =
@@ -29,5 +29,5 @@ keys_in-requires-clause-keys_len c =
 
 pub returns : goal.returns
 returns c =
-    keys_done _ c.in_ok-row.ensures.known c.in_ok-keys_answer.ensures c.keys_in.ensures.public_after
+    keys_done _ c.in_ok-known.ensures.known c.in_ok-keys_answer.ensures c.keys_in.ensures.public_after
     c.keys_in.ensures.secret_after

@@ -6,4 +6,4 @@ use Rattle.permutation.proofs.round.Goals as goal
 pub returns : goal.returns
 unfolding round ι
 returns c =
-    rw (c.chi-e.ensures, c.pi-d.ensures, c.rho-b.ensures, c.theta-a.ensures)
+    rw (c.chi.ensures, c.pi-d.ensures, c.rho-b.ensures, c.theta-a.ensures)

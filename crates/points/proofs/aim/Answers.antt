@@ -1,6 +1,5 @@
 -- `aim` reads where the digest of the framed message points.
 -- Assumes nothing.
-use mathlib.Core.List.{◌++◌}
 use Rattle.message_calls.specs.Framed.{joined}
 use Rattle.rows.specs.Rows.{ruled_row}
 use Rattle.calls.specs.Hashes.{family_for}

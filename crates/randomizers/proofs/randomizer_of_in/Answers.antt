@@ -1,6 +1,5 @@
 -- `randomizer_of_in` hashes the mixed-in bytes and the framed message.
 -- Assumes nothing.
-use mathlib.Core.List.{◌++◌}
 use Rattle.message_calls.specs.Framed.{joined}
 use Rattle.rules.specs.Seal.{mixed_in}
 use Rattle.rows.specs.Rows.{ruled_row}

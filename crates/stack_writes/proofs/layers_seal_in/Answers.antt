@@ -27,7 +27,8 @@ loop-j-preserved c =
       mod-lt l.t leaves,
       rw (take-put_mid at _ l.out ys _ next room)
           (layers_turn (ruled_hashes a.holder.now.hashes) a.hp a.holder.now.secret.now (a.d - 1) l.j l.t l.k a.size
-          (take a.holder.now.hashes.kit.n l.v) (take at l.out) ys (take a.holder.now.hashes.kit.n up.result) c.loop-j-test.true
+          (take a.holder.now.hashes.kit.n l.v) (take at l.out) ys (take a.holder.now.hashes.kit.n up.result)
+          c.loop-j-test.true
           c.requires.0.leaves up.ensures.out_after up.ensures.result_value l.invariant.1),
     )
 
@@ -40,5 +41,6 @@ returns c =
     let ys = c.layer_seal_in.new.out in
     let ends : l.j ≡ top = omega arith in
     rest_written at l.out ys
-    ∙ layers_end (ruled_hashes a.holder.now.hashes) a.hp a.holder.now.secret.now top l.t l.k (take a.holder.now.hashes.kit.n l.v) (take at l.out) ys
+    ∙ layers_end (ruled_hashes a.holder.now.hashes) a.hp a.holder.now.secret.now top l.t l.k
+    (take a.holder.now.hashes.kit.n l.v) (take at l.out) ys
     c.layer_seal_in.ensures (rw ends at l.invariant.1)

@@ -46,7 +46,8 @@ loop-j-preserved c =
     let i = l.j * a.size + get_or a.ds.now l.j 0 in
     let leaf : i ≡ l.j * 2 ^ a.a + get_or a.ds.now l.j 0 =
     ap (λ x. l.j * x + get_or a.ds.now l.j 0) c.requires.sizes.1 in
-    let tree : Leads n (tree_run w a.pointed.tree a.pointed.leaf a.a i (take step (drop at a.sig.now))) c.tree_root-up.result =
+    let tree : Leads n (tree_run w a.pointed.tree a.pointed.leaf a.a i (take step (drop at a.sig.now)))
+    c.tree_root-up.result =
     leads_by (ap (tree_run w a.pointed.tree a.pointed.leaf a.a i) (lent at step a.sig.now)) c.tree_root-up.ensures in
     let room : o + n ≤ length l.out = omega (arith, piece_room l.j (length a.ds.now) n c.loop-j-test.true) in
     let long = c.copy_from_slice.ensures.len ∙ lent_length o n l.out room in
@@ -54,7 +55,8 @@ loop-j-preserved c =
     let next_part : (l.j + 1) * step ≡ at + step = omega arith in
     record {
       walked = rw (next_root, next_part, part_written o n l.out c.copy_from_slice.new.self room long)
-          (roots_turn w a.pointed.tree a.pointed.leaf a.a a.ds.now l.j i at step a.sig.now (take o l.out) _ c.loop-j-test.true
+          (roots_turn w a.pointed.tree a.pointed.leaf a.a a.ds.now l.j i at step a.sig.now (take o l.out) _
+          c.loop-j-test.true
           c.tree_bytes-step.ensures leaf (c.copy_from_slice.ensures.after ∙ tree.value_is) l.invariant.walked);
       counted = ap₂ ◌+◌ l.invariant.counted (tree_calls w a.pointed.tree a.pointed.leaf a.a _ _ tree.counted);
     }

@@ -16,6 +16,6 @@ pub returns : goal.returns
 unfolding family
 returns c =
     let n = c.args.self.now.kit.n in
-    let drawn = λ (m : ℕ). draw rate256 m (finish rate256 (state c.absorb-4.new.self)) in
+    let drawn = λ (m : ℕ). draw rate256 m (finish rate256 (state c.absorb-2.new.self)) in
     front_part drawn n _ c.end.ensures c.end.auto.out (length-take-le n (replicate 32 0) c.requires)
     ∙ rw (shaken, feed_append, feed_append, feed_append) (cc)

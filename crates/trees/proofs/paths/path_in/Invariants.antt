@@ -12,6 +12,8 @@ use Rattle.trees.proofs.paths.path_in.Given as goal
 abbrev pub invariant-loop-z : goal.invariant-loop-z
 invariant-loop-z l =
     ((l.j + 2 ^ (l.count - l.z)) * 2 ^ l.z ≤ 2 ^ 32)
-    × (take (l.z * l.n) l.out ++ (path (ruled_hashes l.holder.hashes) (tree_of (ruled_hashes l.holder.hashes) l.holder.secret.now l.grove)
+    × (take (l.z * l.n) l.out ++ (path (ruled_hashes l.holder.hashes)
+    (tree_of (ruled_hashes l.holder.hashes) l.holder.secret.now l.grove)
     (l.count - l.z) l.z l.j).result
-    ≡ (path (ruled_hashes l.holder.hashes) (tree_of (ruled_hashes l.holder.hashes) l.holder.secret.now l.grove) l.count 0 l.i).result)
+    ≡ (path (ruled_hashes l.holder.hashes) (tree_of (ruled_hashes l.holder.hashes) l.holder.secret.now l.grove) l.count
+    0 l.i).result)
