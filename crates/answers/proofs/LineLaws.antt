@@ -86,6 +86,6 @@ zero_given (l ∷ ls) e =
     by_test false p here rest =
         (λ z. absurd (here z), λ h. absurd (false≢true (sym p ∙ (tells l.test).1 h.0)))
 
--- In order.
+-- Where it is given, none applies; the equation stands as code's contracts have it.
 pub none_applies : (ls : List Line) → lacks 0 ls ≡ true → 0 ≡ first ls → NoneApplies ls
 none_applies ls named z = (zero_given ls named).0 (sym z)
