@@ -15,7 +15,8 @@ const RATE: usize = 136;
 // that callers go by no other.
 #[derive(Clone, Copy)]
 pub struct Shake256 {
-    pub sponge: Sponge<RATE>,
+    pub sponge: Sponge,
+    pub ghost rate: { sponge.rate ≡ rate256 },
 }
 
 impl Shake256 {
@@ -26,7 +27,7 @@ impl Shake256 {
         ensures { state result ≡ empty }
     {
         Shake256 {
-            sponge: Sponge::new(),
+            sponge: Sponge::new(RATE),
         }
     }
 

@@ -8,11 +8,12 @@ ghost use Rattle.sponge.specs.Stream.{sponge, draw, drawn};
 use absorbing::Sponge;
 
 // A lane comes out where the place is its first byte and there is room for eight, else one byte. Returns how many.
-fn squeeze_next<const RATE: usize>(s: &mut Sponge<RATE>, out: &mut [u8]) -> usize
-    requires { (s.old.at < RATE) × (0 < length out.old) }
+fn squeeze_next(s: &mut Sponge, out: &mut [u8]) -> usize
+    requires { (s.old.at < s.old.rate) × (0 < length out.old) }
     ensures written { (0 < result) × (result ≤ length out.old) }
-    ensures state_after { sponge s.new.lanes s.new.at ≡ drawn RATE result (sponge s.old.lanes s.old.at) }
-    ensures out_after { take result out.new ≡ draw RATE result (sponge s.old.lanes s.old.at) }
+    ensures state_after { sponge s.new.lanes s.new.at ≡ drawn s.old.rate result (sponge s.old.lanes s.old.at) }
+    ensures out_after { take result out.new ≡ draw s.old.rate result (sponge s.old.lanes s.old.at) }
+    ensures rate_after { s.new.rate ≡ s.old.rate }
 {
     let w = s.lanes[s.at / 8];
     if s.at % 8 == 0 && out.len() >= 8 {
@@ -26,10 +27,11 @@ fn squeeze_next<const RATE: usize>(s: &mut Sponge<RATE>, out: &mut [u8]) -> usiz
 }
 
 // Squeezes the next bytes into the whole of out.
-pub fn squeeze<const RATE: usize>(s: &mut Sponge<RATE>, out: &mut [u8])
+pub fn squeeze(s: &mut Sponge, out: &mut [u8])
     ensures state_after { sponge s.new.lanes s.new.at
-        ≡ drawn RATE (length out.old) (sponge s.old.lanes s.old.at) }
-    ensures out_after { out.new ≡ draw RATE (length out.old) (sponge s.old.lanes s.old.at) }
+        ≡ drawn s.old.rate (length out.old) (sponge s.old.lanes s.old.at) }
+    ensures out_after { out.new ≡ draw s.old.rate (length out.old) (sponge s.old.lanes s.old.at) }
+    ensures rate_after { s.new.rate ≡ s.old.rate }
 {
     // An index, since after a loop that shrinks a slice nothing is known of what was written to the whole.
     let mut i: usize = 0;

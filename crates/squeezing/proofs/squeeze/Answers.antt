@@ -23,30 +23,34 @@ lent_front m n l ys h =
 
 pub loop-i-init : goal.loop-i-init
 unfolding draw drawn
-loop-i-init g c = (omega arith, refl, refl)
+loop-i-init c = (omega arith, refl, refl, refl)
 
 pub loop-i-preserved : goal.loop-i-preserved
-loop-i-preserved g c =
+loop-i-preserved c =
     let l = c.loop-i in
-    let r = g.row.RATE in
+    let r = c.args.s.now.rate in
     let n = c.squeeze_next-i in
-    let t = c.turn.ensures.state_after in
+    let t = c.turn.ensures in
+    let same = t.rate_after ∙ l.invariant.1 in
+    let turned = rw l.invariant.1 at t.state_after in
     let k = sponge c.args.s.now.lanes c.args.s.now.at in
     let long = rest_long l.i l.out (omega arith) in
-    let front = ap (λ (b : List ℕ). take l.i l.out ++ b) n.ensures.out_after in (
+    let front = ap (λ (b : List ℕ). take l.i l.out ++ b) (rw same at n.ensures.out_after) in (
       omega (arith, long, n.auto.out, n.ensures.written),
-      drawn_next r (omega arith) k l.i n.result (omega arith) l.invariant.1 t n.ensures.state_after,
-      draw_next r (omega arith) k l.i n.result (omega arith) l.invariant.1 t l.invariant.2
+      n.ensures.rate_after ∙ same,
+      drawn_next r (omega arith) k l.i n.result (omega arith) l.invariant.2 turned (rw same at n.ensures.state_after),
+      draw_next r (omega arith) k l.i n.result (omega arith) l.invariant.2 turned l.invariant.3
           (lent_front l.i n.result l.out n.new.out (omega arith) ∙ front),
     )
 
 pub returns : goal.returns
-returns g c =
+returns c =
     let l = c.loop-i in
-    let r = g.row.RATE in
+    let r = c.args.s.now.rate in
     let k = sponge c.args.s.now.lanes c.args.s.now.at in
     let e : l.i ≡ length c.args.out.now = omega arith in
     record {
-      state_after = l.invariant.1 ∙ ap (λ (n : ℕ). drawn r n k) e;
-      out_after = sym (take_all _ _ c.loop-i-test.false) ∙ l.invariant.2 ∙ ap (λ (n : ℕ). draw r n k) e;
+      state_after = l.invariant.2 ∙ ap (λ (n : ℕ). drawn r n k) e;
+      out_after = sym (take_all _ _ c.loop-i-test.false) ∙ l.invariant.3 ∙ ap (λ (n : ℕ). draw r n k) e;
+      rate_after = l.invariant.1;
     }

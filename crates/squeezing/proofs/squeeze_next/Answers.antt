@@ -11,25 +11,25 @@ use Rattle.sponge.proofs.Stream.{drawn_in}
 use Rattle.squeezing.proofs.squeeze_next.Goals as goal
 
 pub returns-then-out-ge8-clause-state_after : goal.returns-then-out-ge8-clause-state_after
-returns-then-out-ge8-clause-state_after g c =
+returns-then-out-ge8-clause-state_after c =
     let s = c.args.s.now in
-    sym (drawn_in g.row.RATE 8 s.lanes s.at (omega arith))
+    sym (drawn_in s.rate 8 s.lanes s.at (omega arith))
 
 pub returns-then-out-ge8-clause-out_after : goal.returns-then-out-ge8-clause-out_after
-returns-then-out-ge8-clause-out_after g c =
+returns-then-out-ge8-clause-out_after c =
     let s = c.args.s.now in
     let e = c.copy_from_slice.ensures.after ∙ c.to_le_bytes.ensures in
     take_at c.copy_from_slice.new.self (drop 8 c.args.out.now) 8 (ap length e) ∙ e
     ∙ le_digits (get_or s.lanes (s.at / 8) 0)
-    ∙ sym (lane_out g.row.RATE s.lanes s.at (omega arith) (omega arith))
+    ∙ sym (lane_out s.rate s.lanes s.at (omega arith) (omega arith))
 
 pub returns-clause-state_after : goal.returns-clause-state_after
-returns-clause-state_after g c =
+returns-clause-state_after c =
     let s = c.args.s.now in
-    sym (drawn_in g.row.RATE 1 s.lanes s.at (omega arith))
+    sym (drawn_in s.rate 1 s.lanes s.at (omega arith))
 
 pub returns-clause-out_after : goal.returns-clause-out_after
 unfolding byte_of
-returns-clause-out_after g c =
+returns-clause-out_after c =
     let s = c.args.s.now in
-    take-suc-set c.args.out.now 0 _ (omega arith) ∙ sym (byte_out g.row.RATE s.lanes s.at (omega arith))
+    take-suc-set c.args.out.now 0 _ (omega arith) ∙ sym (byte_out s.rate s.lanes s.at (omega arith))

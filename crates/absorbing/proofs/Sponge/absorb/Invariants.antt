@@ -6,9 +6,10 @@ use Rattle.sponge.specs.Stream.{sponge, feed}
 use Rattle.absorbing.proofs.Sponge.absorb.Given as goal
 
 abbrev pub invariant-loop-rest : goal.invariant-loop-rest
-invariant-loop-rest g l =
-    feed g.row.RATE (sponge l.self.lanes l.self.at) l.rest
-    ≡ feed g.row.RATE (sponge l.initial.self.lanes l.initial.self.at) l.m
+invariant-loop-rest l =
+    (l.self.rate ≡ l.initial.self.rate)
+    × (feed l.self.rate (sponge l.self.lanes l.self.at) l.rest
+    ≡ feed l.initial.self.rate (sponge l.initial.self.lanes l.initial.self.at) l.m)
 
 abbrev pub decreases-loop-rest : goal.decreases-loop-rest
-decreases-loop-rest g l = length l.rest
+decreases-loop-rest l = length l.rest

@@ -7,17 +7,17 @@ use Rattle.sponge.proofs.Lanes.{byte_first, lane_first}
 use Rattle.absorbing.proofs.Sponge.absorb_next.Goals as goal
 
 pub returns-in-Some-clause-state_after : goal.returns-in-Some-clause-state_after
-returns-in-Some-clause-state_after g c =
+returns-in-Some-clause-state_after c =
     let s = c.args.self.now in
     let m = c.args.m.now in
     let b : Below 256 m = λ j. (c.type_inv.m j).fits in
     let cut = c.in-Some.ensures.cases in
     rw (c.from_le_bytes.ensures, cut.0, cut.1)
-    (lane_first g.row.RATE m b (omega (arith, cut.2)) s.lanes s.at (omega arith) (omega arith))
+    (lane_first s.rate m b (omega (arith, cut.2)) s.lanes s.at (omega arith) (omega arith))
 
 pub returns-clause-state_after : goal.returns-clause-state_after
-returns-clause-state_after g c =
+returns-clause-state_after c =
     let s = c.args.self.now in
     let m = c.args.m.now in
     let b : Below 256 m = λ j. (c.type_inv.m j).fits in
-    rw (c.mix.ensures, rest_read 1 m) (byte_first g.row.RATE m b (omega arith) s.lanes s.at (omega arith))
+    rw (c.mix.ensures, rest_read 1 m) (byte_first s.rate m b (omega arith) s.lanes s.at (omega arith))

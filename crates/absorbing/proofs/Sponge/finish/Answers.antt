@@ -3,6 +3,6 @@
 use Rattle.sponge.specs.Stream.{close, finish}
 use Rattle.absorbing.proofs.Sponge.finish.Goals as goal
 
-pub returns : goal.returns
+pub returns-clause-state_after : goal.returns-clause-state_after
 unfolding finish close
-returns g c = rw (c.mix-2.ensures, c.mix.ensures, ← c.turn.ensures.state_after)
+returns-clause-state_after c = rw (c.mix-2.ensures, c.mix.ensures, c.turn.ensures.rate_after, ← c.turn.ensures.state_after)

@@ -7,11 +7,11 @@ use Rattle.sponge.proofs.Stream.{turn_yes, turn_no}
 use Rattle.absorbing.proofs.Sponge.turn.Goals as goal
 
 pub returns-then-self-clause-state_after : goal.returns-then-self-clause-state_after
-returns-then-self-clause-state_after g c =
+returns-then-self-clause-state_after c =
     let s = c.args.self.now in
-    rw c.permute.ensures (sym (turn_yes g.row.RATE (sponge s.lanes s.at) (omega arith)))
+    rw c.permute.ensures (sym (turn_yes s.rate (sponge s.lanes s.at) (omega arith)))
 
 pub returns-else-self-clause-state_after : goal.returns-else-self-clause-state_after
-returns-else-self-clause-state_after g c =
+returns-else-self-clause-state_after c =
     let s = c.args.self.now in
-    sym (turn_no g.row.RATE (sponge s.lanes s.at) (omega arith))
+    sym (turn_no s.rate (sponge s.lanes s.at) (omega arith))
