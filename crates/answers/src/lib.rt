@@ -1,7 +1,7 @@
 // The answers, and the tests that come before any work.
 #![tactic(auto)]
 
-ghost use Rattle.std.specs.Prelude.{◌≡◌, Ok, Err, IfOk, IfErr, cond};
+ghost use Rattle.std.specs.Prelude.{◌≡◌, Ok, Err, IfOk, IfErr, bytes_eq, cond};
 ghost use Rattle.std.proofs.Math.Option.{some, none};
 ghost use Rattle.rules.specs.Sets.{row_of};
 ghost use Rattle.rows.specs.Rows.{ruled_row};
@@ -57,4 +57,11 @@ pub fn known_set(number: u32) -> Result<Set, Refusal>
 {
     let row = find_row(number).ok_or(Refusal::UnknownSet)?;
     Ok(Set { row })
+}
+
+// Whether two strings are the same: byte by byte, up to the first difference.
+pub fn same(a: &[u8], b: &[u8]) -> bool
+    ensures { result ≡ bytes_eq a.now b.now }
+{
+    a.len() == b.len() && a.iter().zip(b).all(|(x, y)| x == y)
 }

@@ -9,7 +9,7 @@ ghost use Rattle.answers.specs.Answers.{number};
 ghost use Rattle.answers.specs.Lines.{first};
 ghost use Rattle.checking.specs.Checks.{length_lines, Checked, verdict};
 
-use answers::{Answer, MESSAGE_LIMIT, Refusal, demand, known_set};
+use answers::{Answer, MESSAGE_LIMIT, Refusal, demand, known_set, same};
 use checks::checked_root;
 use message_calls::Framed;
 use rows::Row;
@@ -49,7 +49,7 @@ fn walk(set: u32, public: &[u8], message: &[u8], seal: &[u8]) -> Result<Verdict,
     let calls = walked.calls;
     let root = &walked.value[..n];
     let own = &public[n..];
-    let alike = root == own;
+    let alike = same(root, own);
     let answer = demand(alike, Refusal::RootDiffers);
     Ok(Verdict { answer, calls })
 }

@@ -42,5 +42,5 @@ pub returns : goal.returns
 returns c =
     let long = key_long _ _ _ _ c.in_ok-known.known.ready c.in_ok-check_answer.ensures in
     check_walked _ c.in_ok-known.ensures.known c.in_ok-check_answer.ensures
-    (c.demand-answer.ensures ∙ ap (λ (b : Bool). cond b (Ok tt) (Err RootDiffers)) c.eq-alike.ensures)
+    (c.demand-answer.ensures ∙ ap (λ (b : Bool). cond b (Ok tt) (Err RootDiffers)) c.same-alike.ensures)
     c.checked_root-walked.ensures.value_is (rest_piece _ _ long) c.checked_root-walked.ensures.counted
