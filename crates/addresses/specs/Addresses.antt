@@ -1,7 +1,7 @@
 -- What the code's addresses stand for in the rules.
 -- Assumes nothing.
 use Rattle.std.proofs.Math.Option.{Option, some, none}
-use Rattle.std.specs.Prelude.{◌≡◌, cond, ℕ, zero, suc, ◌<◌, ltb, Result, Ok, Err, MatchResult}
+use Rattle.std.specs.Prelude.{◌≡◌, cond, ℕ, zero, suc, ◌<◌, ltb, ◌++◌, Result, Ok, Err, MatchResult, codes, decimal}
 use Rattle.rules.specs.Places.{Bytes, Place, chain_step, chain_ends, tree_node, forest_node, forest_roots, chain_secret}
 use Rattle.rules.specs.Places.{forest_secret, words, address}
 use Rattle.addresses.specs.declared.Address.{Address}
@@ -23,6 +23,10 @@ number_of ForestSecret = 6
 -- The result is the type that has the number, or says that none has.
 abbrev pub Decodes : (number : ℕ) → Result PlaceKind UnknownKind → Type 0
 Decodes number r = MatchResult r (λ kind. number_of kind ≡ number) (λ e. (e.0 ≡ number) × (6 < number))
+
+-- What a number that no type has is printed as.
+abbrev pub unknown_text : UnknownKind → Bytes
+unknown_text e = codes "no type of address has number " ++ decimal e.0
 
 abbrev pub bytes_of : Address → Bytes
 bytes_of a = words a.layer a.tree a.kind a.one a.two a.three

@@ -25,6 +25,11 @@ pub enum PlaceKind {
 pub struct UnknownKind(pub u32);
 
 impl fmt::Display for UnknownKind {
+    ghost use Rattle.std.specs.Prelude.{Some};
+    ghost use Rattle.addresses.specs.Addresses.{unknown_text};
+
+    ghost output = { λ e. Some (unknown_text e) };
+
     fn fmt<W: fmt::Write>(&self, f: &mut fmt::Formatter<W>) -> fmt::Result {
         write!(f, "no type of address has number {}", self.0)
     }
@@ -71,20 +76,27 @@ pub struct Address {
     pub three: u32,
 }
 
-// The address of a type.
-#[tactic(auto, unfolding(rules::specs::Places::address))]
-pub fn address_at(kind: PlaceKind, layer: u32, tree: u64, one: u32, two: u32, three: u32) -> Address
-    ensures { bytes_of result ≡ address (place_at (number_of kind) layer tree one two three) }
+// The address of a type by its number; a number above 6 is refused, and a word that the type lacks is cleared.
+#[tactic(auto, unfolding(rules::specs::Places::address), using(crate::proofs::AddressLaws::numbered))]
+pub fn address_of(
+    number: u32,
+    layer: u32,
+    tree: u64,
+    one: u32,
+    two: u32,
+    three: u32,
+) -> Result<Address, UnknownKind>
+    ensures { made result ≡ address_at number layer tree one two three }
 {
     let all = Address {
         layer,
         tree,
-        kind: u32::from(kind),
+        kind: number,
         one,
         two,
         three,
     };
-    match kind {
+    Ok(match PlaceKind::try_from(number)? {
         PlaceKind::ChainStep => all,
         PlaceKind::ChainEnds => Address {
             two: 0,
@@ -105,23 +117,23 @@ pub fn address_at(kind: PlaceKind, layer: u32, tree: u64, one: u32, two: u32, th
             two: 0,
             ..all
         },
-    }
+    })
 }
 
-// The address of a type by its number; a number above 6 is refused.
+// The address of a type, whose number is never refused.
 #[tactic(auto, using(crate::proofs::AddressLaws::numbered))]
-pub fn address_of(
-    number: u32,
-    layer: u32,
-    tree: u64,
-    one: u32,
-    two: u32,
-    three: u32,
-) -> Result<Address, UnknownKind>
-    ensures { made result ≡ address_at number layer tree one two three }
+pub fn address_at(kind: PlaceKind, layer: u32, tree: u64, one: u32, two: u32, three: u32) -> Address
+    ensures { bytes_of result ≡ address (place_at (number_of kind) layer tree one two three) }
 {
-    let kind = PlaceKind::try_from(number)?;
-    Ok(address_at(kind, layer, tree, one, two, three))
+    let blank = Address {
+        layer: 0,
+        tree: 0,
+        kind: 0,
+        one: 0,
+        two: 0,
+        three: 0,
+    };
+    address_of(u32::from(kind), layer, tree, one, two, three).unwrap_or(blank)
 }
 
 // The 32 bytes of an address.
