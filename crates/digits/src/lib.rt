@@ -25,7 +25,8 @@ fn digit(x: &[u8], skip: u32, width: u32) -> u32
     ensures { result ≡ to_int x.now / 2 ^ (8 * length x.now - (skip + width)) % 2 ^ width }
 {
     let end = skip + width;
-    let bytes = end.div_ceil(8);
+    // Written out, since the compiler sees of this form alone that a chain digit lies within two bytes.
+    let bytes = (end + 7) / 8;
     let front = to_int(&x[..bytes as usize]) >> (bytes * 8 - end);
     (front % (1 << width)) as u32
 }
