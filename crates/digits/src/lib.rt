@@ -45,8 +45,8 @@ pub fn digits(x: &[u8], width: u32, out: &mut [u32])
     }
 }
 
-// The steps that chains have left from the positions `ds`: of a value's own digits, the checksum. They are compared,
-// since `saturating_sub` costs each digit two instructions more.
+// The steps that chains have left from the positions `ds`: of a value's own digits, the checksum. A comparison, since
+// `saturating_sub` takes two instructions more for each.
 fn steps_left(ds: &[u32]) -> u32
     requires { 15 * length ds.now < 2 ^ 32 }
     ensures { result ≡ steps ds.now }

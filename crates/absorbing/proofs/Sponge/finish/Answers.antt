@@ -5,4 +5,6 @@ use Rattle.absorbing.proofs.Sponge.finish.Goals as goal
 
 pub returns-clause-state_after : goal.returns-clause-state_after
 unfolding finish close
-returns-clause-state_after c = rw (c.mix-2.ensures, c.mix.ensures, c.turn.ensures.rate_after, ← c.turn.ensures.state_after)
+returns-clause-state_after c =
+    let turned = c.turn.ensures in
+    rw (c.mix-2.ensures, c.mix.ensures, turned.rate_after, ← turned.state_after)
